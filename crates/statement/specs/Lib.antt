@@ -1,0 +1,12 @@
+pub mod Cluster
+pub mod Lowest
+pub mod Matrix
+pub mod Table
+pub mod Rows
+pub mod Growing
+pub mod Tree
+pub mod Bytes
+pub mod Refusals
+pub mod Record
+pub mod Calls
+pub mod Figures

@@ -1,0 +1,152 @@
+-- THE TABLE OF REFUSALS. Document 01, "Refusal numbers": for each number the condition and the place, then the order for each input.
+-- A new number is one more line here, and one more entry in the orders that give it.
+use Prim.Native.Nat.{ℕ, suc, _+_, _*_, _-_, _/_, _%_}
+use mathlib.Core.Bool.{Bool, cond, not, _&&_, _||_}
+use mathlib.Core.List.{List, [], _∷_, _++_}
+use lib.Dec.{ltb, eqb}
+use lib.ListN.{length, getD}
+use Rattle.statement.specs.declared.Splits.{Splits}
+use Rattle.statement.specs.declared.Outcome.{Outcome}
+use Rattle.statement.specs.declared.Outcome.the-variants.{Done, Short, Refused}
+use Rattle.statement.specs.Lowest.{lowest, some}
+use Rattle.statement.specs.Matrix.{distanceLimit, weightLimit}
+use Rattle.statement.specs.Table.{choose}
+use Rattle.statement.specs.Rows.{wellFormed}
+use Rattle.statement.specs.Tree.{Tree, root, onWalk, clusterOf}
+use Rattle.statement.specs.Bytes.{treeIn, treeLength}
+
+-- what an outcome is in document 01's table: its number, 0 where nothing is refused, and its place
+abbrev pub numberOf : Outcome → ℕ
+numberOf Done = 0
+numberOf Short = 0
+numberOf (Refused number place) = number
+
+abbrev pub placeOf : Outcome → ℕ
+placeOf Done = 0
+placeOf Short = 0
+placeOf (Refused number place) = place
+
+-- A LINE of the table: its number, how many places it looks at, and which of them are bad
+pub record Check : Type 0 where
+  pub number : ℕ
+  pub places : ℕ
+  pub bad : ℕ → Bool
+
+-- a line whose place is always 0
+abbrev pub single : ℕ → Bool → Check
+single number bad = record { number = number; places = 1; bad = λ i. bad }
+
+-- each check runs over the whole input before the next; the place is the lowest bad one
+unfoldable pub outcomeOf : List Check → Outcome
+outcomeOf [] = Done
+outcomeOf (c ∷ cs) =
+    cond (some (c .bad) (c .places)) (Refused (c .number) (lowest (c .bad) (c .places))) (outcomeOf cs)
+
+-- THE LINES
+
+-- 1: n below 2 or above 64
+abbrev pub taxaOff : ℕ → Check
+taxaOff n = single 1 (ltb n 2 || ltb 64 n)
+
+-- 2: input length doesn't match n
+abbrev pub lengthOff : Bool → Check
+lengthOff fits = single 2 (not fits)
+
+-- a tree of n taxa has m from 0 to 2n-3 edges: a length that fits none of these gets 2 as well
+abbrev pub treeFits : ℕ → ℕ → Bool
+treeFits n len = some (λ m. eqb len (treeLength n m)) (2 * n - 2)
+
+-- 3: diagonal not 0, at the entry
+abbrev pub diagonalOff : ℕ → List ℕ → Check
+diagonalOff n entries = record { number = 3; places = n * n; bad = λ e. eqb (e / n) (e % n) && not (eqb (getD entries e 0) 0) }
+
+-- 4: distance above 1,000,000, at the entry
+abbrev pub distanceOff : ℕ → List ℕ → Check
+distanceOff n entries = record { number = 4; places = n * n; bad = λ e. ltb distanceLimit (getD entries e 0) }
+
+-- 5: the two entries of a pair differ, at the one of lower index
+abbrev pub pairOff : ℕ → List ℕ → Check
+pairOff n entries =
+    record { number = 5; places = n * n; bad = λ e. ltb (e / n) (e % n) && not (eqb (getD entries e 0) (getD entries (e % n * n + e / n) 0)) }
+
+-- 6: table byte above 3, at the byte
+abbrev pub byteOff : List ℕ → Check
+byteOff bytes = record { number = 6; places = length bytes; bad = λ e. ltb 3 (getD bytes e 0) }
+
+-- 7: output slice not of the exact length
+abbrev pub outputOff : ℕ → ℕ → Check
+outputOff len wanted = single 7 (not (eqb len wanted))
+
+-- 8: list not well-formed
+abbrev pub listOff : ℕ → ℕ → Splits → Check
+listOff most n s = single 8 (not (wellFormed most n s))
+
+-- 8: or, where the call wants k = n, another k
+abbrev pub wholeListOff : ℕ → Splits → Check
+wholeListOff n s = single 8 (not (wellFormed weightLimit n s && eqb (s .taxa) n))
+
+-- 9: m byte disagrees with the length, or a link or home above m
+abbrev pub treeOff : ℕ → List ℕ → Check
+treeOff n body =
+    let m = getD body 0 0 in single 9 (not (eqb (length body) (treeLength n m)) || some (λ i. ltb m (getD body (1 + i) 0)) (m + n))
+
+-- 10: some vertex's walk never reaches the root, at the lowest such
+abbrev pub walkOff : Tree → Check
+walkOff t = record { number = 10; places = root t; bad = λ v. not (onWalk t v (root t)) }
+
+-- 11: taxon 0 not at home at the root
+abbrev pub homeOff : Tree → Check
+homeOff t = single 11 (not (eqb (getD (t .homes) 0 0) (root t)))
+
+-- 12: an edge with no taxon beyond it, the lowest
+abbrev pub edgeOff : ℕ → Tree → Check
+edgeOff n t = record { number = 12; places = root t; bad = λ v. eqb (clusterOf t v n) 0 }
+
+-- 13: two edges with equal clusters, the lowest of them
+abbrev pub twinOff : ℕ → Tree → Check
+twinOff n t =
+    record { number = 13; places = root t; bad = λ v. some (λ w. not (eqb v w) && eqb (clusterOf t v n) (clusterOf t w n)) (root t) }
+
+-- 14: tree weight 0 or above 2,000,000, at the lowest vertex
+abbrev pub weightOff : Tree → Check
+weightOff t = record { number = 14; places = root t; bad = λ v. eqb (getD (t .weights) v 0) 0 || ltb weightLimit (getD (t .weights) v 0) }
+
+-- 15: mark wrong
+abbrev pub markOff : List ℕ → Check
+markOff bytes = single 15 (not (eqb (getD bytes 0 0) 0x53 && eqb (getD bytes 1 0) 0x70))
+
+-- 16: under 8 bytes, or the record is cut
+abbrev pub cutOff : List ℕ → ℕ → Check
+cutOff bytes wanted = single 16 (ltb (length bytes) wanted)
+
+-- 17: unknown kind, or a known kind the call doesn't take
+abbrev pub kindOff : Bool → Check
+kindOff taken = single 17 (not taken)
+
+-- 18: pad not zero, or words don't add to zero
+abbrev pub sumOff : ℕ → ℕ → Check
+sumOff pad sum = single 18 (not (eqb pad 0) || not (eqb sum 0))
+
+-- THE ORDERS
+
+-- the matrix's own checks, and those of a matrix with its n
+abbrev pub entryChecks : ℕ → List ℕ → List Check
+entryChecks n entries = diagonalOff n entries ∷ distanceOff n entries ∷ pairOff n entries ∷ []
+
+abbrev pub matrixChecks : ℕ → List ℕ → List Check
+matrixChecks n entries = taxaOff n ∷ lengthOff (eqb (length entries) (n * n)) ∷ entryChecks n entries
+
+abbrev pub tableChecks : ℕ → List ℕ → List Check
+tableChecks n bytes = taxaOff n ∷ lengthOff (eqb (length bytes) (choose n 4)) ∷ byteOff bytes ∷ []
+
+-- the tree's own checks, and those of a tree body with its n
+abbrev pub vertexChecks : ℕ → List ℕ → List Check
+vertexChecks n body =
+    let t = treeIn n body in treeOff n body ∷ weightOff t ∷ walkOff t ∷ homeOff t ∷ edgeOff n t ∷ twinOff n t ∷ []
+
+abbrev pub treeChecks : ℕ → List ℕ → List Check
+treeChecks n body = taxaOff n ∷ lengthOff (treeFits n (length body)) ∷ vertexChecks n body
+
+-- a list with k = n, and a lent output slice: 7 last in all
+abbrev pub outputChecks : ℕ → Splits → ℕ → ℕ → List Check
+outputChecks n s len wanted = taxaOff n ∷ wholeListOff n s ∷ outputOff len wanted ∷ []
