@@ -1,1 +1,17 @@
 pub mod Figures
+pub mod Bits
+pub mod Mask
+pub mod Rule
+pub mod Instances
+pub mod Answer
+pub mod Matrix
+pub mod Grow
+pub mod Clash
+pub mod Tally
+pub mod Laminar
+pub mod Weigh
+pub mod Table
+pub mod Listed
+pub mod Full
+pub mod Reached
+pub mod Lowest
