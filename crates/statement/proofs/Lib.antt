@@ -15,3 +15,5 @@ pub mod Listed
 pub mod Full
 pub mod Reached
 pub mod Lowest
+pub mod Trial
+pub mod Refused

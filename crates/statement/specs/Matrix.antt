@@ -1,8 +1,8 @@
 -- Document 01, "Scores and splits": Matrix, Score, Matrix rule.
-use Prim.Native.Nat.{ℕ, _+_, _*_, min}
+use Prim.Native.Nat.{ℕ, _+_, _*_, _≤_, _<_, min}
 use mathlib.Core.Path.{_≡_}
 use mathlib.Core.List.{List}
-use lib.ListN.{getD}
+use lib.ListN.{length, getD}
 use lib.IntN.{ℤ, pos, subℕ}
 use lib.Signed.{_≤ℤ_, _<ℤ_}
 use Rattle.statement.specs.Cluster.{Split, Across}
@@ -14,6 +14,15 @@ distance n entries i j = getD entries (i * n + j) 0
 -- no distance is above this
 abbrev pub distanceLimit : ℕ
 distanceLimit = 1000000
+
+-- d(i,i) = 0, d(i,j) = d(j,i), each at most 1,000,000; the triangle rule is not demanded
+pub record AcceptedMatrix (n : ℕ) (entries : List ℕ) : Type 0 where
+  pub two : 2 ≤ n
+  pub few : n ≤ 64
+  pub size : length entries ≡ n * n
+  pub diagonal : (i : ℕ) → i < n → distance n entries i i ≡ 0
+  pub limit : (i j : ℕ) → i < n → j < n → distance n entries i j ≤ distanceLimit
+  pub same : (i j : ℕ) → i < n → j < n → distance n entries i j ≡ distance n entries j i
 
 -- no score, and so no weight, is above this
 abbrev pub weightLimit : ℕ

@@ -1,7 +1,9 @@
 -- THE TABLE OF REFUSALS. Document 01, "Refusal numbers": for each number the condition and the place, then the order for each input.
 -- A new number is one more line here, and one more entry in the orders that give it.
-use Prim.Native.Nat.{ℕ, suc, _+_, _*_, _-_, _/_, _%_}
-use mathlib.Core.Bool.{Bool, cond, not, _&&_, _||_}
+use Prim.Native.Nat.{ℕ, _+_, _*_, _-_, _/_, _%_, _<_}
+use mathlib.Core.Path.{_≡_}
+use mathlib.Core.Logic.{_⊎_}
+use mathlib.Core.Bool.{Bool, true, false, cond, not, _&&_, _||_}
 use mathlib.Core.List.{List, [], _∷_, _++_}
 use lib.Dec.{ltb, eqb}
 use lib.ListN.{length, getD}
@@ -41,6 +43,25 @@ unfoldable pub outcomeOf : List Check → Outcome
 outcomeOf [] = Done
 outcomeOf (c ∷ cs) =
     cond (some (c .bad) (c .places)) (Refused (c .number) (lowest (c .bad) (c .places))) (outcomeOf cs)
+
+-- EXACTLY WHEN: a check is passed where it finds no bad place; a number is given at a place where the checks before it are passed, and this
+-- one has its lowest bad place there
+abbrev pub Passed : Check → Type 0
+Passed c = (i : ℕ) → i < c .places → c .bad i ≡ false
+
+pub record Fails (c : Check) (number place : ℕ) : Type 0 where
+  pub named : c .number ≡ number
+  pub within : place < c .places
+  pub bad : c .bad place ≡ true
+  pub lowest : (i : ℕ) → i < place → c .bad i ≡ false
+
+abbrev pub AllPassed : List Check → Type 0
+AllPassed [] = Unit {0}
+AllPassed (c ∷ cs) = Passed c × AllPassed cs
+
+abbrev pub Given : List Check → ℕ → ℕ → Type 0
+Given [] number place = ⊥
+Given (c ∷ cs) number place = Fails c number place ⊎ (Passed c × Given cs number place)
 
 -- THE LINES
 

@@ -1,11 +1,11 @@
 -- Document 01, "Scores and splits": Table rule.
-use Prim.Native.Nat.{ℕ, zero, suc, _+_, min, max}
+use Prim.Native.Nat.{ℕ, zero, suc, _+_, _≤_, _<_, min, max}
 use mathlib.Core.Path.{_≡_}
 use mathlib.Core.Logic.{_≢_}
 use mathlib.Core.Bool.{Bool, true, cond}
 use mathlib.Core.List.{List}
 use lib.Dec.{ltb, eqb}
-use lib.ListN.{getD}
+use lib.ListN.{length, getD}
 use Rattle.statement.specs.Cluster.{Split, Across}
 
 -- C(p,q), which is 0 if p < q
@@ -17,6 +17,13 @@ choose (suc p) (suc q) = choose p q + choose p (suc q)
 -- the place of the four a<b<c<d
 abbrev pub place : ℕ → ℕ → ℕ → ℕ → ℕ
 place a b c d = a + choose b 2 + choose c 3 + choose d 4
+
+-- one byte for each four, none above 3
+pub record AcceptedTable (n : ℕ) (bytes : List ℕ) : Type 0 where
+  pub two : 2 ≤ n
+  pub few : n ≤ 64
+  pub size : length bytes ≡ choose n 4
+  pub limit : (i : ℕ) → i < length bytes → getD bytes i 0 ≤ 3
 
 -- a pairing's place, and which of the three pairings of its four it is: for a<b<c<d, 1 is ab|cd, 2 is ac|bd, 3 is ad|bc
 pub record Pairing : Type 0 where

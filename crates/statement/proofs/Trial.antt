@@ -1,0 +1,119 @@
+-- What a trial's answer means: a number from 1 on is at most the answer exactly when it is at most w and no asked four with the taxon a scores
+-- less. Assumes nothing.
+use Prim.Native.Nat.{ℕ, zero, suc, _≤_, _<_, min}
+use native.Mathlib.Omega.{arith}
+use native.Mathlib.Decide.{decLt}
+use mathlib.Core.Path.{_≡_, refl, sym, _∙_, ap}
+use mathlib.Core.Logic.{_≢_, _↔_}
+use mathlib.Core.Bool.{Bool, true, false, cond, not, _&&_}
+use lib.Dec.{eqb, leb→le, le→leb}
+use lib.IntN.{ℤ, pos, negsuc}
+use lib.Signed.{_≤ℤ_}
+use borrow.Author.Tests.{eqb-true, eqb-false, eq-eqb, ne-eqb}
+use Rattle.statement.specs.Cluster.{bit}
+use Rattle.statement.specs.Growing.{lesser, partsAs, overFours, above, matrixTrial}
+use Rattle.statement.proofs.Rule.{Rule, Ok, New, Meet, Trial}
+use Rattle.statement.proofs.Instances.{matrixRule}
+
+-- the lesser of w and some numbers
+pub lesser-of : (w t : ℕ) (f : ℕ → ℕ) (m : ℕ) → t ≤ lesser w f m → (t ≤ w) × ((i : ℕ) → i < m → t ≤ f i)
+unfolding lesser
+lesser-of w t f zero h = (h, λ i l. absurd (omega arith))
+lesser-of w t f (suc m) h = let p = lesser-of w t f m (omega arith) in (p .0, λ i l. go i l (decLt i m) (p .1))
+  where
+    go : (i : ℕ) → i < suc m → Dec (i < m) → ((j : ℕ) → j < m → t ≤ f j) → t ≤ f i
+    go i l (yes q) below = below i q
+    go i l (no q) below = let e : i ≡ m = omega arith in omega (arith, ap f e)
+
+pub of-lesser : (w t : ℕ) (f : ℕ → ℕ) (m : ℕ) → t ≤ w → ((i : ℕ) → i < m → t ≤ f i) → t ≤ lesser w f m
+unfolding lesser
+of-lesser w t f zero c h = c
+of-lesser w t f (suc m) c h = omega (arith, h m (omega arith), of-lesser w t f m c (λ i l. h i (omega arith)))
+
+-- x is on a's side of c, y and z are on the other
+pub record Parted (c a x y z : ℕ) : Type 0 where
+  pub x-side : bit c x ≡ bit c a
+  pub y-side : bit c y ≢ bit c a
+  pub z-side : bit c z ≢ bit c a
+
+-- what f says of a four, or w where it does not part so
+asked : (c a x y z v w t : ℕ) → (t ≤ cond (partsAs c a x y z) v w) → Parted c a x y z → t ≤ v
+asked c a x y z v w t h p = rw (eq-eqb (bit c x) (bit c a) (p .x-side), ne-eqb (bit c y) (bit c a) (p .y-side), ne-eqb (bit c z) (bit c a) (p .z-side)) at h
+
+unasked : (c a x y z v w t : ℕ) → t ≤ w → (Parted c a x y z → t ≤ v) → t ≤ cond (partsAs c a x y z) v w
+unasked c a x y z v w t l h = go (eqb (bit c x) (bit c a)) refl (eqb (bit c y) (bit c a)) refl (eqb (bit c z) (bit c a)) refl
+  where
+    go : (p : Bool) → eqb (bit c x) (bit c a) ≡ p → (q : Bool) → eqb (bit c y) (bit c a) ≡ q → (s : Bool) → eqb (bit c z) (bit c a) ≡ s
+        → t ≤ cond (p && (not q && not s)) v w
+    go false ep q eq s es = l
+    go true ep true eq s es = l
+    go true ep false eq true es = l
+    go true ep false eq false es = h (record { x-side = eqb-true _ _ ep; y-side = eqb-false _ _ eq; z-side = eqb-false _ _ es })
+
+-- every asked four ax|yz of the split c of n taxa scores t or more. Growth has the newcomer for a; request §5 takes any taxon
+abbrev pub Anchored : Rule → ℕ → ℕ → ℕ → ℕ → Type 0
+Anchored r t n a c = (x y z : ℕ) → x < n → y < n → z < n → Parted c a x y z → Ok r t n c a x y z
+
+-- THE MEANING, where f stands for the rule's scores
+module _ (r : Rule) (f : ℕ → ℕ → ℕ → ℕ) (n a c w : ℕ)
+    (agree : (t x y z : ℕ) → 1 ≤ t → t ≤ w → x < n → y < n → z < n → Parted c a x y z → (t ≤ f x y z) ↔ Ok r t n c a x y z) where
+  pub over-fours : (t : ℕ) → 1 ≤ t → (t ≤ overFours f n a c w) ↔ ((t ≤ w) × Anchored r t n a c)
+  unfolding overFours
+  over-fours t pt = (there, λ h. back (h .0) (h .1))
+    where
+      four : ℕ → ℕ → ℕ → ℕ
+      four x y z = cond (partsAs c a x y z) (f x y z) w
+
+      pair : ℕ → ℕ → ℕ
+      pair x y = lesser w (λ z. four x y z) n
+
+      one : ℕ → ℕ
+      one x = lesser w (λ y. pair x y) n
+
+      there : t ≤ lesser w (λ x. one x) n → (t ≤ w) × Anchored r t n a c
+      there h =
+          let p = lesser-of w t (λ x. one x) n h in (
+            p .0,
+            λ x y z lx ly lz parted.
+                let q = lesser-of w t (λ y. pair x y) n (p .1 x lx) in
+                let s = lesser-of w t (λ z. four x y z) n (q .1 y ly) in
+                agree t x y z pt (p .0) lx ly lz parted .0 (asked c a x y z (f x y z) w t (s .1 z lz) parted),
+          )
+
+      back : t ≤ w → Anchored r t n a c → t ≤ lesser w (λ x. one x) n
+      back l h =
+          of-lesser w t (λ x. one x) n l
+          (λ x lx. of-lesser w t (λ y. pair x y) n l
+          (λ y ly. of-lesser w t (λ z. four x y z) n l
+          (λ z lz. unasked c a x y z (f x y z) w t l (λ parted. agree t x y z pt l lx ly lz parted .1 (h x y z lx ly lz parted)))))
+
+-- with the newcomer k for a, of a candidate of k + 1 taxa
+pub anchored-new : (r : Rule) (t k c : ℕ) → Anchored r t (suc k) k c ↔ New r t k c
+anchored-new r t k c = (
+  (λ h x y z lx ly lz p q s. h x y z (omega arith) (omega arith) (omega arith) (record { x-side = p; y-side = q; z-side = s })),
+  (λ h x y z lx ly lz p. h x y z (omega arith) (under y ly (p .y-side)) (under z lz (p .z-side)) (p .x-side) (p .y-side) (p .z-side)),
+)
+  where
+    under : (m : ℕ) → m < suc k → bit c m ≢ bit c k → m < k
+    under m l d = let m≢k : m ≢ k = λ e. d (ap (bit c) e) in omega arith
+
+pub new-trial : (r : Rule) (k c w v : ℕ) → ((t : ℕ) → 1 ≤ t → (t ≤ v) ↔ ((t ≤ w) × Anchored r t (suc k) k c)) → Trial r k c w v
+new-trial r k c w v h =
+    record {
+      least = λ t pt. (
+        (λ l. let p = h t pt .0 l in (p .0, anchored-new r t k c .0 (p .1))),
+        (λ p. h t pt .1 (p .0, anchored-new r t k c .1 (p .1))),
+      );
+    }
+
+-- a score as a weight
+pub above-is : (t : ℕ) (z : ℤ) → 1 ≤ t → (t ≤ above z) ↔ (pos t ≤ℤ z)
+above-is t (pos n) pt = ((λ h. record { le = le→leb t n h }), (λ h. leb→le t n (h .le)))
+above-is t (negsuc n) pt = ((λ h. absurd (omega arith)), (λ h. absurd (h .le)))
+
+-- ON A MATRIX
+pub matrix-trial : (n : ℕ) (d : ℕ → ℕ → ℕ) (k a c w t : ℕ) → 1 ≤ t → (t ≤ matrixTrial d k a c w) ↔ ((t ≤ w) × Anchored (matrixRule n d) t k a c)
+unfolding matrixTrial
+matrix-trial n d k a c w t pt =
+    over-fours (matrixRule n d) _ k a c w (λ s x y z ps l lx ly lz p.
+        let e = above-is s _ ps in ((λ h asked. e .0 h), (λ ok. e .1 (ok tt)))) t pt
