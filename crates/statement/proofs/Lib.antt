@@ -17,3 +17,4 @@ pub mod Reached
 pub mod Lowest
 pub mod Trial
 pub mod Refused
+pub mod Pairing

@@ -15,10 +15,10 @@ use Rattle.statement.specs.Cluster.{Split}
 use Rattle.statement.proofs.Rule.{Rule, Laws, Distinct}
 use Rattle.statement.proofs.Instances.{less, rank, least, partner, code, placeBy, placed, fourRule, tableAt, tableRule}
 
-less-yes : (a b : ℕ) → a < b → less a b ≡ 1
+pub less-yes : (a b : ℕ) → a < b → less a b ≡ 1
 less-yes a b h = rw (lt-ltb a b h)
 
-less-no : (a b : ℕ) → b ≤ a → less a b ≡ 0
+pub less-no : (a b : ℕ) → b ≤ a → less a b ≡ 0
 less-no a b h = rw (le-ltb a b h)
 
 less-mono : (t a b : ℕ) → a < b → less t a ≤ less t b
@@ -57,7 +57,7 @@ which w x y z = go (ℕ-discrete w (least w x y z)) (ℕ-discrete x (least w x y
     go (no p) (no q) (no r) = isZ p q r (omega arith)
 
 module _ (f : ℕ → ℕ) (m w x y z : ℕ) where
-  partner-w : w ≡ m → partner f m w x y z ≡ f x
+  pub partner-w : w ≡ m → partner f m w x y z ≡ f x
   unfolding partner
   partner-w p = rw (eq-eqb w m p)
 
@@ -104,11 +104,11 @@ rank-flip w x y z = fun-ext (λ t. omega arith)
 rank-cross : (w x y z : ℕ) → rank w y x z ≡ rank w x y z
 rank-cross w x y z = fun-ext (λ t. omega arith)
 
-code-swap : (w x y z : ℕ) → Distinct w x y z → code x w y z ≡ code w x y z
+pub code-swap : (w x y z : ℕ) → Distinct w x y z → code x w y z ≡ code w x y z
 code-swap w x y z d =
     ap₂ (λ (f : ℕ → ℕ) (m : ℕ). partner f m x w y z) (rank-swap w x y z) (omega arith) ∙ partner-swap (rank w x y z) (least w x y z) w x y z d (which w x y z)
 
-code-flip : (w x y z : ℕ) → Distinct w x y z → code y z w x ≡ code w x y z
+pub code-flip : (w x y z : ℕ) → Distinct w x y z → code y z w x ≡ code w x y z
 code-flip w x y z d =
     ap₂ (λ (f : ℕ → ℕ) (m : ℕ). partner f m y z w x) (rank-flip w x y z) (omega arith) ∙ partner-flip (rank w x y z) (least w x y z) w x y z d (which w x y z)
 
@@ -158,10 +158,10 @@ code-range w x y z d = go (which w x y z)
         let ne : z < y = under (least w x y z) z y s (least-low w x y z .2) (λ e. d .yz (sym e)) in
         (omega (arith, e, rank-first z y w x y ne), omega (arith, e, rank-most z y w x))
 
-place-swap : (w x y z : ℕ) → placed x w y z ≡ placed w x y z
+pub place-swap : (w x y z : ℕ) → placed x w y z ≡ placed w x y z
 place-swap w x y z = ap (λ (f : ℕ → ℕ). placeBy f x w y z) (rank-swap w x y z) ∙ omega arith
 
-place-flip : (w x y z : ℕ) → placed y z w x ≡ placed w x y z
+pub place-flip : (w x y z : ℕ) → placed y z w x ≡ placed w x y z
 place-flip w x y z = ap (λ (f : ℕ → ℕ). placeBy f y z w x) (rank-flip w x y z) ∙ omega arith
 
 place-cross : (w x y z : ℕ) → placed w y x z ≡ placed w x y z
