@@ -18,3 +18,4 @@ pub mod Lowest
 pub mod Trial
 pub mod Refused
 pub mod Pairing
+pub mod Enlarged

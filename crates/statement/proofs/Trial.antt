@@ -3,17 +3,21 @@
 use Prim.Native.Nat.{ℕ, zero, suc, _≤_, _<_, min}
 use native.Mathlib.Omega.{arith}
 use native.Mathlib.Decide.{decLt}
-use mathlib.Core.Path.{_≡_, refl, sym, _∙_, ap}
+use mathlib.Core.Path.{_≡_, refl, sym, _∙_, ap, subst}
 use mathlib.Core.Logic.{_≢_, _↔_}
-use mathlib.Core.Bool.{Bool, true, false, cond, not, _&&_}
+use mathlib.Core.Bool.{Bool, true, false, cond, not, _&&_, _||_}
+use mathlib.Core.List.{List}
 use lib.Dec.{eqb, leb→le, le→leb}
+use lib.ListN.{getD}
 use lib.IntN.{ℤ, pos, negsuc}
 use lib.Signed.{_≤ℤ_}
 use borrow.Author.Tests.{eqb-true, eqb-false, eq-eqb, ne-eqb}
 use Rattle.statement.specs.Cluster.{bit}
-use Rattle.statement.specs.Growing.{lesser, partsAs, overFours, above, matrixTrial}
-use Rattle.statement.proofs.Rule.{Rule, Ok, New, Meet, Trial}
-use Rattle.statement.proofs.Instances.{matrixRule}
+use Rattle.statement.specs.Table.{Pairing, stands, tableWeight}
+use Rattle.statement.specs.Growing.{lesser, partsAs, overFours, above, matrixTrial, tableTrial}
+use Rattle.statement.proofs.Rule.{Rule, Distinct, Ok, New, Meet, Trial}
+use Rattle.statement.proofs.Instances.{matrixRule, placed, code, tableAt, tableRule}
+use Rattle.statement.proofs.Pairing.{pairing-is}
 
 -- the lesser of w and some numbers
 pub lesser-of : (w t : ℕ) (f : ℕ → ℕ) (m : ℕ) → t ≤ lesser w f m → (t ≤ w) × ((i : ℕ) → i < m → t ≤ f i)
@@ -117,3 +121,39 @@ unfolding matrixTrial
 matrix-trial n d k a c w t pt =
     over-fours (matrixRule n d) _ k a c w (λ s x y z ps l lx ly lz p.
         let e = above-is s _ ps in ((λ h asked. e .0 h), (λ ok. e .1 (ok tt)))) t pt
+
+-- ON A TABLE: a four of different taxa stands in it, or scores nothing
+stands-one : (bytes : List ℕ) (w x y z : ℕ) → Distinct w x y z → tableAt bytes (placed w x y z) (code w x y z) ≡ pos (cond (stands bytes w x y z) tableWeight 0)
+stands-one bytes w x y z d = ap (λ (p : Pairing). pos (cond (eqb (getD bytes (p .place) 0) (p .byte)) 1 0)) (sym (pairing-is w x y z d))
+
+pub table-trial : (n : ℕ) (bytes : List ℕ) (k a c w t : ℕ) → 1 ≤ t → (t ≤ tableTrial bytes k a c w) ↔ ((t ≤ w) × Anchored (tableRule n bytes) t k a c)
+unfolding tableTrial
+table-trial n bytes k a c w t pt = over-fours (tableRule n bytes) _ k a c w (λ s x y z ps l lx ly lz p. agree s x y z ps l p) t pt
+  where
+    value : ℕ → ℕ → ℕ → ℕ
+    value x y z = cond (eqb a x || eqb y z) w (cond (stands bytes a x y z) tableWeight 0)
+
+    agree : (s x y z : ℕ) → 1 ≤ s → s ≤ w → Parted c a x y z → (s ≤ value x y z) ↔ Ok (tableRule n bytes) s k c a x y z
+    agree s x y z ps l p = go (eqb a x) refl (eqb y z) refl
+      where
+        different : a ≢ x → y ≢ z → Distinct a x y z
+        different ax yz =
+            record {
+              wx = ax;
+              wy = λ e. p .y-side (ap (bit c) (sym e));
+              wz = λ e. p .z-side (ap (bit c) (sym e));
+              xy = λ e. p .y-side (ap (bit c) (sym e) ∙ p .x-side);
+              xz = λ e. p .z-side (ap (bit c) (sym e) ∙ p .x-side);
+              yz = yz;
+            }
+
+        go : (i : Bool) → eqb a x ≡ i → (j : Bool) → eqb y z ≡ j
+            → (s ≤ cond (i || j) w (cond (stands bytes a x y z) tableWeight 0)) ↔ Ok (tableRule n bytes) s k c a x y z
+        go true ei j ej = ((λ h d. absurd (d .wx (eqb-true a x ei))), (λ ok. l))
+        go false ei true ej = ((λ h d. absurd (d .yz (eqb-true y z ej))), (λ ok. l))
+        go false ei false ej =
+            let d = different (eqb-false a x ei) (eqb-false y z ej) in
+            let e = above-is s (pos (cond (stands bytes a x y z) tableWeight 0)) ps in (
+              (λ h _. subst (λ (v : ℤ). pos s ≤ℤ v) (sym (stands-one bytes a x y z d)) (e .0 h)),
+              (λ ok. e .1 (subst (λ (v : ℤ). pos s ≤ℤ v) (stands-one bytes a x y z d) (ok d))),
+            )
