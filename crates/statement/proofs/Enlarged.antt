@@ -265,7 +265,7 @@ module _ (r : Rule) (most : ℕ) (trial : ℕ → ℕ → ℕ → ℕ → ℕ) (
   pub enlarged-full : FullRows r k rows → FullRows r (suc k) (enlarged trial most k rows)
   enlarged-full f =
       let g = weighed-grow r (plain .laws) k fits pk (weightIn rows) value (clusters rows) up
-          (parents-rows r k (clusters rows) (λ p s a. absurd (subst T (plain .never k p) a)) (f .full)) (λ p m e. f .weights p m) value-is in
+      (parents-rows r k (clusters rows) (λ p s a. absurd (subst T (plain .never k p) a)) (f .full)) (λ p m e. f .weights p m) value-is in
       record {
         full = subst (Full r (suc k)) (sym enlarged-clusters) (g .full);
         weights = λ c m. subst (Weight r (suc k) c) (sym (enlarged-weight c m)) (g .weights c (subst (Mem c) enlarged-clusters m));

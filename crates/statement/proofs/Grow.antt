@@ -10,7 +10,8 @@ use lib.Dec.{T}
 use lib.Pow.{pow-pos}
 use lib.IntN.{ℤ, pos}
 use lib.Signed.{_≤ℤ_}
-use Rattle.statement.specs.Cluster.{bit, In, Out, Split}
+use Rattle.statement.specs.Cluster.{bit, In, Out, Split, Across}
+use Rattle.statement.specs.Growing.{Includes}
 use Rattle.statement.proofs.Rule.{Rule, Laws, Ok, Fours, Old, New, Carried, Supported, Kept, Parent}
 use Rattle.statement.proofs.Bits.{bit-lt, zero-or-one, bit-none, bit-mod, bit-plus}
 
@@ -34,30 +35,61 @@ module _ (r : Rule) (laws : Laws r) (t k c : ℕ) (fits : suc k ≤ r .taxa) whe
   fours-old : Fours r t (suc k) c → Old r t k c
   fours-old f u u′ v v′ lu lu′ lv lv′ = f u u′ v v′ (omega arith) (omega arith) (omega arith) (omega arith)
 
-  pub fours-new : Fours r t (suc k) c → New r t k c
-  fours-new f x y z lx ly lz p q s = go (zero-or-one c k)
+  -- the fours of c that include the newcomer, its taxa in any order: those kx|yz say it all
+  pub of-new : ((u u′ v v′ : ℕ) → Across (suc k) c u u′ v v′ → Includes k u u′ v v′ → Ok r t (suc k) c u u′ v v′) → New r t k c
+  of-new f x y z lx ly lz p q s = go (zero-or-one c k)
     where
+      across : (u u′ v v′ : ℕ) → u ≤ k → u′ ≤ k → v ≤ k → v′ ≤ k → Out c u → Out c u′ → In c v → In c v′ → Across (suc k) c u u′ v v′
+      across u u′ v v′ lu lu′ lv lv′ ou ou′ iv iv′ =
+          record {
+            u-below = omega arith;
+            u′-below = omega arith;
+            v-below = omega arith;
+            v′-below = omega arith;
+            u-out = ou;
+            u′-out = ou′;
+            v-in = iv;
+            v′-in = iv′;
+          }
+
       go : Out c k ⊎ In c k → Ok r t (suc k) c k x y z
-      go (inl o) = f k x y z (omega arith) (omega arith) (omega arith) (omega arith) o (p ∙ o) (omega (arith, bit-lt c y)) (omega (arith, bit-lt c z))
-      go (inr i) = ok-flip r laws t (suc k) c y z k x (omega arith) (omega arith) (omega arith) (omega arith)
-          (f y z k x (omega arith) (omega arith) (omega arith) (omega arith) (omega (arith, bit-lt c y)) (omega (arith, bit-lt c z)) i (p ∙ i))
+      go (inl o) = f k x y z (across k x y z (omega arith) lx (omega arith) (omega arith) o (p ∙ o) (omega (arith, bit-lt c y)) (omega (arith, bit-lt c z))) (inl refl)
+      go (inr i) =
+          ok-flip r laws t (suc k) c y z k x (omega arith) (omega arith) (omega arith) (omega arith)
+          (f y z k x (across y z k x (omega arith) (omega arith) (omega arith) lx (omega (arith, bit-lt c y)) (omega (arith, bit-lt c z)) i (p ∙ i)) (inr (inr (inl refl))))
+
+  pub new-of : New r t k c → (u u′ v v′ : ℕ) → Across (suc k) c u u′ v v′ → Includes k u u′ v v′ → Ok r t (suc k) c u u′ v v′
+  new-of h u u′ v v′ x i = go i (x .u-out) (x .u′-out) (x .v-in) (x .v′-in) (x .u-below) (x .u′-below) (x .v-below) (x .v′-below)
+    where
+      go : Includes k u u′ v v′ → Out c u → Out c u′ → In c v → In c v′ → u < suc k → u′ < suc k → v < suc k → v′ < suc k → Ok r t (suc k) c u u′ v v′
+      go (inl e) ou ou′ iv iv′ lu lu′ lv lv′ = new-at r t k c h u u′ v v′ e lu′ lv lv′ (ou′ ∙ sym ou) (omega arith) (omega arith)
+      go (inr (inl e)) ou ou′ iv iv′ lu lu′ lv lv′ =
+          ok-swap r laws t (suc k) c u′ u v v′ (omega arith) (omega arith) (omega arith) (omega arith)
+          (new-at r t k c h u′ u v v′ e lu lv lv′ (ou ∙ sym ou′) (omega arith) (omega arith))
+      go (inr (inr (inl e))) ou ou′ iv iv′ lu lu′ lv lv′ =
+          ok-flip r laws t (suc k) c v v′ u u′ (omega arith) (omega arith) (omega arith) (omega arith)
+          (new-at r t k c h v v′ u u′ e lv′ lu lu′ (iv′ ∙ sym iv) (omega arith) (omega arith))
+      go (inr (inr (inr e))) ou ou′ iv iv′ lu lu′ lv lv′ =
+          ok-flip r laws t (suc k) c v v′ u u′ (omega arith) (omega arith) (omega arith) (omega arith)
+          (ok-swap r laws t (suc k) c v′ v u u′ (omega arith) (omega arith) (omega arith) (omega arith)
+          (new-at r t k c h v′ v u u′ e lv lu lu′ (iv ∙ sym iv′) (omega arith) (omega arith)))
+
+  pub fours-new : Fours r t (suc k) c → New r t k c
+  fours-new f = of-new (λ u u′ v v′ x i. f u u′ v v′ (x .u-below) (x .u′-below) (x .v-below) (x .v′-below) (x .u-out) (x .u′-out) (x .v-in) (x .v′-in))
 
   fours-both : Old r t k c → New r t k c → Fours r t (suc k) c
   fours-both g h u u′ v v′ lu lu′ lv lv′ ou ou′ iv iv′ = go (decLt u k) (decLt u′ k) (decLt v k) (decLt v′ k)
     where
+      new : Includes k u u′ v v′ → Ok r t (suc k) c u u′ v v′
+      new = new-of h u u′ v v′
+          (record { u-below = lu; u′-below = lu′; v-below = lv; v′-below = lv′; u-out = ou; u′-out = ou′; v-in = iv; v′-in = iv′ })
+
       go : Dec (u < k) → Dec (u′ < k) → Dec (v < k) → Dec (v′ < k) → Ok r t (suc k) c u u′ v v′
       go (yes a) (yes b) (yes d) (yes e) = g u u′ v v′ a b d e ou ou′ iv iv′
-      go (no a) b d e = new-at r t k c h u u′ v v′ (omega arith) lu′ lv lv′ (ou′ ∙ sym ou) (omega arith) (omega arith)
-      go (yes a) (no b) d e =
-          ok-swap r laws t (suc k) c u′ u v v′ (omega arith) (omega arith) (omega arith) (omega arith)
-          (new-at r t k c h u′ u v v′ (omega arith) lu lv lv′ (ou ∙ sym ou′) (omega arith) (omega arith))
-      go (yes a) (yes b) (no d) e =
-          ok-flip r laws t (suc k) c v v′ u u′ (omega arith) (omega arith) (omega arith) (omega arith)
-          (new-at r t k c h v v′ u u′ (omega arith) lv′ lu lu′ (iv′ ∙ sym iv) (omega arith) (omega arith))
-      go (yes a) (yes b) (yes d) (no e) =
-          ok-flip r laws t (suc k) c v v′ u u′ (omega arith) (omega arith) (omega arith) (omega arith)
-          (ok-swap r laws t (suc k) c v′ v u u′ (omega arith) (omega arith) (omega arith) (omega arith)
-          (new-at r t k c h v′ v u u′ (omega arith) lv lu lu′ (iv ∙ sym iv′) (omega arith) (omega arith)))
+      go (no a) b d e = new (inl (omega arith))
+      go (yes a) (no b) d e = new (inr (inl (omega arith)))
+      go (yes a) (yes b) (no d) e = new (inr (inr (inl (omega arith))))
+      go (yes a) (yes b) (yes d) (no e) = new (inr (inr (inr (omega arith))))
 
   pub fours-grow : Fours r t (suc k) c ↔ (Old r t k c × New r t k c)
   fours-grow = ((λ f. (fours-old f, fours-new f)), (λ p. fours-both (p .0) (p .1)))

@@ -19,3 +19,6 @@ pub mod Trial
 pub mod Refused
 pub mod Pairing
 pub mod Enlarged
+pub mod Lists
+pub mod Run
+pub mod Allowance

@@ -80,8 +80,8 @@ module _ (r : Rule) (dec : (k c u u′ v v′ : ℕ) → Dec (r .asked k c u u�
   pub fours-search : (t k c : ℕ) → Fours r t k c ⊎ ((u u′ v v′ : ℕ) × (u < k) × (u′ < k) × (v < k) × (v′ < k) × Under r t k c u u′ v v′)
   fours-search t k c =
       elim (search-below (λ u. search-below (λ u′. search-below (λ v. search-below (λ v′. one-four t k c u u′ v v′) k) k) k) k) [
-        inl f ↦ inl (λ u u′ v v′ lu lu′ lv lv′. f u lu u′ lu′ v lv v′ lv′)
-      | inr (u, lu, (u′, lu′, (v, lv, (v′, lv′, x)))) ↦ inr (u, u′, v, v′, lu, lu′, lv, lv′, x)
+        | inl f ↦ inl (λ u u′ v v′ lu lu′ lv lv′. f u lu u′ lu′ v lv v′ lv′)
+        | inr (u, lu, (u′, lu′, (v, lv, (v′, lv′, x)))) ↦ inr (u, u′, v, v′, lu, lu′, lv, lv′, x)
       ]
 
   -- the threshold gives the documents' words

@@ -120,7 +120,7 @@ pub matrix-trial : (n : ℕ) (d : ℕ → ℕ → ℕ) (k a c w t : ℕ) → 1 �
 unfolding matrixTrial
 matrix-trial n d k a c w t pt =
     over-fours (matrixRule n d) _ k a c w (λ s x y z ps l lx ly lz p.
-        let e = above-is s _ ps in ((λ h asked. e .0 h), (λ ok. e .1 (ok tt)))) t pt
+    let e = above-is s _ ps in ((λ h asked. e .0 h), (λ ok. e .1 (ok tt)))) t pt
 
 -- ON A TABLE: a four of different taxa stands in it, or scores nothing
 stands-one : (bytes : List ℕ) (w x y z : ℕ) → Distinct w x y z → tableAt bytes (placed w x y z) (code w x y z) ≡ pos (cond (stands bytes w x y z) tableWeight 0)

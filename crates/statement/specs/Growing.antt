@@ -1,5 +1,7 @@
 -- Document 01, "Growing and the allowance": the trial, the candidates and the enlarged list, growth with an allowance, the whole run.
 use Prim.Native.Nat.{ℕ, zero, suc, _+_, _*_, _-_, _^_, min}
+use mathlib.Core.Path.{_≡_}
+use mathlib.Core.Logic.{_⊎_}
 use mathlib.Core.Bool.{Bool, cond, not, _&&_, _||_}
 use mathlib.Core.List.{List, [], _∷_, _++_, map}
 use lib.Dec.{ltb, leb, eqb}
@@ -46,6 +48,10 @@ candidates most k rows = rows ++ (row (2 ^ k) most ∷ map (λ r. row (2 ^ k + r
 
 abbrev pub consIf : Bool → Row → List Row → List Row
 consIf b r rows = cond b (r ∷ rows) rows
+
+-- a four that includes the newcomer k
+abbrev pub Includes : ℕ → ℕ → ℕ → ℕ → ℕ → Type 0
+Includes k u u′ v v′ = (u ≡ k) ⊎ ((u′ ≡ k) ⊎ ((v ≡ k) ⊎ (v′ ≡ k)))
 
 -- the candidates whose trial is above zero, at what it says
 unfoldable pub kept : (ℕ → ℕ → ℕ) → List Row → List Row
