@@ -22,3 +22,4 @@ pub mod Enlarged
 pub mod Lists
 pub mod Run
 pub mod Allowance
+pub mod Accepted
