@@ -23,3 +23,4 @@ pub mod Lists
 pub mod Run
 pub mod Allowance
 pub mod Accepted
+pub mod Ties

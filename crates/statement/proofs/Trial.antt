@@ -123,7 +123,7 @@ matrix-trial n d k a c w t pt =
     let e = above-is s _ ps in ((λ h asked. e .0 h), (λ ok. e .1 (ok tt)))) t pt
 
 -- ON A TABLE: a four of different taxa stands in it, or scores nothing
-stands-one : (bytes : List ℕ) (w x y z : ℕ) → Distinct w x y z → tableAt bytes (placed w x y z) (code w x y z) ≡ pos (cond (stands bytes w x y z) tableWeight 0)
+pub stands-one : (bytes : List ℕ) (w x y z : ℕ) → Distinct w x y z → tableAt bytes (placed w x y z) (code w x y z) ≡ pos (cond (stands bytes w x y z) tableWeight 0)
 stands-one bytes w x y z d = ap (λ (p : Pairing). pos (cond (eqb (getD bytes (p .place) 0) (p .byte)) 1 0)) (sym (pairing-is w x y z d))
 
 pub table-trial : (n : ℕ) (bytes : List ℕ) (k a c w t : ℕ) → 1 ≤ t → (t ≤ tableTrial bytes k a c w) ↔ ((t ≤ w) × Anchored (tableRule n bytes) t k a c)
