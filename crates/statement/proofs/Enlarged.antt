@@ -64,7 +64,7 @@ module _ (most k : ℕ) (rows : List Row) (up : Ascending 1 (2 ^ k) (clusters ro
   not-listed c l m = omega (arith, asc-mem 1 (2 ^ k) (clusters rows) up c m)
 
   -- the newcomer alone starts from the most that a split can weigh, any other from its parent's weight
-  start-alone : weightIn (candidates most k rows) (2 ^ k) ≡ most
+  pub start-alone : weightIn (candidates most k rows) (2 ^ k) ≡ most
   start-alone =
       weight-append rows (row (2 ^ k) most ∷ map (λ r. row (2 ^ k + r .cluster) (r .weight)) rows) (2 ^ k) (not-listed (2 ^ k) (omega arith))
       ∙ rw (eq-eqb (2 ^ k) (2 ^ k) refl)
@@ -191,6 +191,11 @@ module _ (r : Rule) (most : ℕ) (trial : ℕ → ℕ → ℕ → ℕ → ℕ) (
   enlarged-weight c m =
       ap (λ (l : List Row). weightIn l c) enlarged-is
       ∙ weight-keepOne value (extensions k (clusters rows)) c (subst (Mem c) enlarged-clusters m)
+
+  -- which is its trial's answer
+  pub enlarged-trial : (c : ℕ) → Listed c (enlarged trial most k rows) → Trial r k c (weightIn (candidates most k rows) c) (weightIn (enlarged trial most k rows) c)
+  unfolding value
+  enlarged-trial c m = subst (Trial r k c (weightIn (candidates most k rows) c)) (sym (enlarged-weight c m)) (plain .tries k c (weightIn (candidates most k rows) c))
 
   -- the value is a trial from the old weight, or for the newcomer alone from the most
   pub value-old : (c : ℕ) → Mem c (extensions k (clusters rows)) → 0 < c % 2 ^ k → Trial r k c (weightIn rows (c % 2 ^ k)) (value c)

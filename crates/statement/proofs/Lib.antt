@@ -24,3 +24,4 @@ pub mod Run
 pub mod Allowance
 pub mod Accepted
 pub mod Ties
+pub mod GrowthRule

@@ -10,7 +10,8 @@ use lib.Dec.{T, leb, leb→le, le→leb}
 use lib.IntN.{ℤ, pos, negsuc}
 use lib.Signed.{_≤ℤ_, leZ}
 use Rattle.statement.specs.Cluster.{bit, In, Out, Split}
-use Rattle.statement.proofs.Rule.{Rule, Laws, Ok, Fours, Carried, Weight, Reached, Bare, WeightOf, Caps}
+use Rattle.statement.proofs.Rule.{Rule, Laws, Ok, Fours, New, Carried, Weight, Trial, Reached, Bare, WeightOf, Caps}
+use Rattle.statement.proofs.Trial.{Parted, Anchored, anchored-new}
 use Rattle.statement.proofs.Bits.{zero-or-one}
 
 -- all below n, or one that is not
@@ -105,3 +106,49 @@ module _ (r : Rule) (dec : (k c u u′ v v′ : ℕ) → Dec (r .asked k c u u�
                   let e : r .cap k c ≡ w = omega arith in
                   caps .high u u′ v v′ lu lu′ lv lv′ ou ou′ iv iv′ a
                   (subst (λ (t : ℕ). pos (suc t) ≤ℤ r .score u u′ v v′) (sym e) (g u u′ v v′ lu lu′ lv lv′ ou ou′ iv iv′ a))
+
+-- the same of the fours ax|yz that include the taxon a
+module _ (r : Rule) (dec : (k c u u′ v v′ : ℕ) → Dec (r .asked k c u u′ v v′)) where
+  abbrev Short : ℕ → ℕ → ℕ → ℕ → ℕ → ℕ → ℕ → Type 0
+  Short t n a c x y z = Parted c a x y z × r .asked n c a x y z × (pos t ≤ℤ r .score a x y z → ⊥)
+
+  parted : (c a x y z : ℕ) → Dec (Parted c a x y z)
+  parted c a x y z = go (ℕ-discrete (bit c x) (bit c a)) (ℕ-discrete (bit c y) (bit c a)) (ℕ-discrete (bit c z) (bit c a))
+    where
+      go : Dec (bit c x ≡ bit c a) → Dec (bit c y ≡ bit c a) → Dec (bit c z ≡ bit c a) → Dec (Parted c a x y z)
+      go (no p) q s = no (λ h. p (h .x-side))
+      go (yes p) (yes q) s = no (λ h. h .y-side q)
+      go (yes p) (no q) (yes s) = no (λ h. h .z-side s)
+      go (yes p) (no q) (no s) = yes (record { x-side = p; y-side = q; z-side = s })
+
+  one-anchored : (t n a c x y z : ℕ) → (Parted c a x y z → Ok r t n c a x y z) ⊎ Short t n a c x y z
+  one-anchored t n a c x y z = go (parted c a x y z) (dec n c a x y z) (dec-le t (r .score a x y z))
+    where
+      go : Dec (Parted c a x y z) → Dec (r .asked n c a x y z) → Dec (pos t ≤ℤ r .score a x y z) → (Parted c a x y z → Ok r t n c a x y z) ⊎ Short t n a c x y z
+      go (no p) q s = inl (λ h. absurd (p h))
+      go (yes p) (no q) s = inl (λ h asked. absurd (q asked))
+      go (yes p) (yes q) (yes s) = inl (λ h asked. s)
+      go (yes p) (yes q) (no s) = inr (p, q, s)
+
+  anchored-search : (t n a c : ℕ) → Anchored r t n a c ⊎ ((x y z : ℕ) × (x < n) × (y < n) × (z < n) × Short t n a c x y z)
+  anchored-search t n a c =
+      elim (search-below (λ x. search-below (λ y. search-below (λ z. one-anchored t n a c x y z) n) n) n) [
+        inl f ↦ inl (λ x y z lx ly lz. f x lx y ly z lz)
+      | inr (x, lx, (y, ly, (z, lz, s))) ↦ inr (x, y, z, lx, ly, lz, s)
+      ]
+
+  -- a trial's answer above zero is what it started from, or the score of an asked four
+  pub trial-reached : (k c cap v : ℕ) → Trial r k c cap v → 0 < v
+      → (v ≡ cap) ⊎ ((x y z : ℕ) × (x < suc k) × (y < suc k) × (z < suc k) × Parted c k x y z × r .asked (suc k) c k x y z × (r .score k x y z ≡ pos v))
+  trial-reached k c cap v trial pv = go (ℕ-discrete v cap) (anchored-search (suc v) (suc k) k c)
+    where
+      here : (v ≤ cap) × New r v k c
+      here = trial .least v pv .0 (le-refl v)
+
+      go : Dec (v ≡ cap) → Anchored r (suc v) (suc k) k c ⊎ ((x y z : ℕ) × (x < suc k) × (y < suc k) × (z < suc k) × Short (suc v) (suc k) k c x y z)
+          → (v ≡ cap) ⊎ ((x y z : ℕ) × (x < suc k) × (y < suc k) × (z < suc k) × Parted c k x y z × r .asked (suc k) c k x y z × (r .score k x y z ≡ pos v))
+      go (yes e) s = inl e
+      go (no e) (inl f) =
+          absurd (let z : suc v ≤ v = trial .least (suc v) (omega arith) .1 (omega (arith, here .0), anchored-new r (suc v) k c .0 f) in omega arith)
+      go (no e) (inr (x, y, z, lx, ly, lz, (p, asked, s))) =
+          inr (x, y, z, lx, ly, lz, p, asked, exactly v (r .score k x y z) (anchored-new r v k c .1 (here .1) x y z lx ly lz p asked) s)

@@ -13,8 +13,8 @@ use lib.Signed.{_≤ℤ_, _<ℤ_, leZ}
 use Rattle.statement.specs.Cluster.{bit, In, Out, Split, Across}
 use Rattle.statement.specs.Matrix.{distance, distanceLimit, weightLimit, AcceptedMatrix, score, MatrixWeight, MatrixSupported}
 use Rattle.statement.specs.Table.{stands, TableSupported, tableWeight}
-use Rattle.statement.specs.Rows.{Row, Listed, weightIn, FullAnswer}
-use Rattle.statement.specs.Growing.{matrixTrial, tableTrial}
+use Rattle.statement.specs.Rows.{Row, weightIn}
+use Rattle.statement.specs.Growing.{matrixTrial, tableTrial, MatrixAnswer, TableAnswer}
 use Rattle.statement.proofs.Rule.{Rule, Distinct, Laws, Fours, Supported, Weight, WeightOf, Caps, Reached, Bare}
 use Rattle.statement.proofs.Instances.{matrixRule, tableRule, tableAt, placed, code}
 use Rattle.statement.proofs.Bits.{lt-bit}
@@ -110,10 +110,7 @@ module _ (n : ℕ) (entries : List ℕ) (accepted : AcceptedMatrix n entries) wh
           })
 
   -- THE FULL ANSWER of the matrix
-  abbrev pub MatrixAnswer : ℕ → List Row → Type 0
-  MatrixAnswer k rows = FullAnswer (MatrixSupported (distance n entries) k) (λ c w. MatrixWeight (distance n entries) k c (pos w)) k rows
-
-  pub matrix-answer : (k : ℕ) (rows : List Row) → 0 < k → k ≤ n → FullRows theMatrix k rows ↔ MatrixAnswer k rows
+  pub matrix-answer : (k : ℕ) (rows : List Row) → 0 < k → k ≤ n → FullRows theMatrix k rows ↔ MatrixAnswer n entries k rows
   matrix-answer k rows pk fits = (
     (λ f. record {
       up = f .full .up;
@@ -176,9 +173,6 @@ module _ (n : ℕ) (bytes : List ℕ) where
   )
 
   -- THE FULL ANSWER of the table: every weight is 1
-  abbrev pub TableAnswer : ℕ → List Row → Type 0
-  TableAnswer k rows = FullAnswer (TableSupported bytes k) (λ c w. w ≡ tableWeight) k rows
-
   table-weight : (k c w : ℕ) → Fours theTable 1 k c → Weight theTable k c w ↔ (w ≡ tableWeight)
   table-weight k c w f = (
     (λ x.
@@ -190,7 +184,7 @@ module _ (n : ℕ) (bytes : List ℕ) where
     ) }),
   )
 
-  pub table-answer : (k : ℕ) (rows : List Row) → FullRows theTable k rows ↔ TableAnswer k rows
+  pub table-answer : (k : ℕ) (rows : List Row) → FullRows theTable k rows ↔ TableAnswer bytes k rows
   table-answer k rows = (
     (λ f. record {
       up = f .full .up;

@@ -1,19 +1,20 @@
 -- Document 01, "Growing and the allowance": the trial, the candidates and the enlarged list, growth with an allowance, the whole run.
-use Prim.Native.Nat.{ℕ, zero, suc, _+_, _*_, _-_, _^_, min}
+use Prim.Native.Nat.{ℕ, zero, suc, _+_, _*_, _-_, _^_, _≤_, min}
 use mathlib.Core.Path.{_≡_}
-use mathlib.Core.Logic.{_⊎_}
-use mathlib.Core.Bool.{Bool, cond, not, _&&_, _||_}
+use mathlib.Core.Logic.{_⊎_, _↔_, _≢_}
+use mathlib.Core.Bool.{Bool, true, cond, not, _&&_, _||_}
 use mathlib.Core.List.{List, [], _∷_, _++_, map}
 use lib.Dec.{ltb, leb, eqb}
 use lib.ListN.{length}
 use lib.IntN.{ℤ, pos, negsuc}
+use lib.Signed.{_≤ℤ_, _<ℤ_}
 use Rattle.statement.specs.declared.Splits.{Splits}
 use Rattle.statement.specs.declared.Growth.{Growth}
 use Rattle.statement.specs.declared.Outcome.the-variants.{Done, Short}
-use Rattle.statement.specs.Cluster.{bit}
-use Rattle.statement.specs.Matrix.{score, weightLimit}
-use Rattle.statement.specs.Table.{stands, tableWeight}
-use Rattle.statement.specs.Rows.{Row, row, rowsOf, listOf}
+use Rattle.statement.specs.Cluster.{bit, Across}
+use Rattle.statement.specs.Matrix.{distance, score, weightLimit, MatrixWeight, MatrixSupported}
+use Rattle.statement.specs.Table.{stands, tableWeight, TableSupported}
+use Rattle.statement.specs.Rows.{Row, row, clusters, Listed, weightIn, Ascending, FullAnswer, rowsOf, listOf}
 
 -- the lesser of w and f 0, .. f (m - 1)
 unfoldable pub lesser : ℕ → (ℕ → ℕ) → ℕ → ℕ
@@ -61,6 +62,36 @@ kept trial (r ∷ rs) = consIf (ltb 0 (trial (r .cluster) (r .weight))) (row (r 
 -- the enlarged list: trial n a c w tries the split c of the first n taxa by its fours that include a
 unfoldable pub enlarged : (ℕ → ℕ → ℕ → ℕ → ℕ) → ℕ → ℕ → List Row → List Row
 enlarged trial most k rows = kept (trial (suc k) k) (candidates most k rows)
+
+-- THE GROWTH RULE for a well-formed list: the enlarged one holds exactly the candidates whose fours that include the newcomer are all supported
+pub record GrowthRule (Supports : ℕ → ℕ → ℕ → ℕ → Type 0) (Weighs : ℕ → ℕ → Type 0) (most k : ℕ) (rows larger : List Row) : Type 0 where
+  pub up : Ascending 1 (2 ^ suc k) (clusters larger)
+  pub exact : (c : ℕ) → Listed c larger
+      ↔ (Listed c (candidates most k rows) × ((u u′ v v′ : ℕ) → Across (suc k) c u u′ v v′ → Includes k u u′ v v′ → Supports u u′ v v′))
+  pub weigh : (c : ℕ) → Listed c larger → Weighs c (weightIn larger c)
+
+-- on a matrix the weight is the lesser of the old weight and those new scores (the newcomer alone has new scores only)
+pub record NewWeight (d : ℕ → ℕ → ℕ) (k : ℕ) (rows : List Row) (c w : ℕ) : Type 0 where
+  pub old : w ≤ weightIn (candidates weightLimit k rows) c
+  pub new : (u u′ v v′ : ℕ) → Across (suc k) c u u′ v v′ → Includes k u u′ v v′ → pos w ≤ℤ score d u u′ v v′
+  pub reached : ((c ≢ 2 ^ k) × (w ≡ weightIn (candidates weightLimit k rows) c))
+      ⊎ ((u u′ v v′ : ℕ) × Across (suc k) c u u′ v v′ × Includes k u u′ v v′ × (score d u u′ v v′ ≡ pos w))
+
+abbrev pub MatrixGrowth : ℕ → List ℕ → ℕ → List Row → List Row → Type 0
+MatrixGrowth n entries k rows larger =
+    let d = distance n entries in GrowthRule (λ u u′ v v′. pos 0 <ℤ score d u u′ v v′) (NewWeight d k rows) weightLimit k rows larger
+
+abbrev pub TableGrowth : List ℕ → ℕ → List Row → List Row → Type 0
+TableGrowth bytes k rows larger =
+    GrowthRule (λ u u′ v v′. u ≢ u′ → v ≢ v′ → stands bytes u u′ v v′ ≡ true) (λ c w. w ≡ tableWeight) tableWeight k rows larger
+
+-- THE FULL ANSWER of a matrix, and of a table, for the first k taxa
+abbrev pub MatrixAnswer : ℕ → List ℕ → ℕ → List Row → Type 0
+MatrixAnswer n entries k rows =
+    let d = distance n entries in FullAnswer (MatrixSupported d k) (λ c w. MatrixWeight d k c (pos w)) k rows
+
+abbrev pub TableAnswer : List ℕ → ℕ → List Row → Type 0
+TableAnswer bytes k rows = FullAnswer (TableSupported bytes k) (λ c w. w ≡ tableWeight) k rows
 
 -- what adding a taxon to a list of s rows costs
 abbrev pub cost : ℕ → ℕ
