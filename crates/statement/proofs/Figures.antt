@@ -1,5 +1,6 @@
 -- THE FIGURES of document 01 that are marked P hold. Assumes nothing.
 use mathlib.Core.Path.{refl}
+use Rattle.statement.specs.Cluster.{groupOf}
 use Rattle.statement.specs.Lowest.{lowestFrom}
 use Rattle.statement.specs.Table.{choose, ordered, lowerFirst}
 use Rattle.statement.specs.Rows.{rowsOf, filled, listOf, conflicts, badRow, wellFormed}
@@ -11,5 +12,5 @@ use Rattle.statement.specs.Calls.{runMatrix, runTable, growMatrix, readT
 use Rattle.statement.specs.Figures.{Holds, figures}
 
 pub figures-hold : Holds figures
-unfolding lowestFrom choose ordered lowerFirst rowsOf filled listOf conflicts badRow wellFormed lesser overFours matrixTrial tableTrial kept enlarged grown rowsAt trialsAt wholeRun numbers linkOf homeOf treeOf walk clusterOf insertRow sortRows rowsOfTree climb pathSum fromBytes treeIn outcomeOf runMatrix runTable growMatrix readTree
+unfolding groupOf lowestFrom choose ordered lowerFirst rowsOf filled listOf conflicts badRow wellFormed lesser overFours matrixTrial tableTrial kept enlarged grown rowsAt trialsAt wholeRun numbers linkOf homeOf treeOf walk clusterOf insertRow sortRows rowsOfTree climb pathSum fromBytes treeIn outcomeOf runMatrix runTable growMatrix readTree
 figures-hold = (refl, (refl, (refl, (refl, (refl, (refl, (refl, (refl, (refl, (refl, (refl, (refl, (refl, tt)))))))))))))

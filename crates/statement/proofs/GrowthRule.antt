@@ -66,7 +66,7 @@ module _ (n : ℕ) (entries : List ℕ) (accepted : AcceptedMatrix n entries) (k
       )
 
   -- the newcomer alone: kk|00 is one of its fours, and no score passes the limit, so the limit itself is only reached as a score
-  alone-reached : New (theMatrix n entries accepted) weightLimit k (2 ^ k)
+  alone-reached : New (theMatrix n entries) weightLimit k (2 ^ k)
       → (u u′ v v′ : ℕ) × Across (suc k) (2 ^ k) u u′ v v′ × Includes k u u′ v v′ × (score (distance n entries) u u′ v v′ ≡ pos weightLimit)
   alone-reached h =
       turned (2 ^ k) k 0 0 weightLimit (omega arith) (omega arith) (omega arith) parted
@@ -89,9 +89,9 @@ module _ (n : ℕ) (entries : List ℕ) (accepted : AcceptedMatrix n entries) (k
       }
     where
       rule : Rule
-      rule = theMatrix n entries accepted
+      rule = theMatrix n entries
 
-      plain : Plain (theMatrix n entries accepted) weightLimit (matrixTrial (distance n entries))
+      plain : Plain (theMatrix n entries) weightLimit (matrixTrial (distance n entries))
       plain = matrix-plain n entries accepted
 
       start : ℕ
@@ -99,13 +99,13 @@ module _ (n : ℕ) (entries : List ℕ) (accepted : AcceptedMatrix n entries) (k
 
       above : 0 < weightIn larger c
       above =
-          enlarged-well (theMatrix n entries accepted) weightLimit (matrixTrial (distance n entries)) (matrix-plain n entries accepted) k fits pk rows (well .clean .up) well
+          enlarged-well (theMatrix n entries) weightLimit (matrixTrial (distance n entries)) (matrix-plain n entries accepted) k fits pk rows (well .clean .up) well
           .weigh (weightIn larger c) (weight-listed larger c m) .0
 
-      tried : Trial (theMatrix n entries accepted) k c (weightIn (candidates weightLimit k rows) c) (weightIn larger c)
-      tried = enlarged-trial (theMatrix n entries accepted) weightLimit (matrixTrial (distance n entries)) (matrix-plain n entries accepted) k fits pk rows (well .clean .up) c m
+      tried : Trial (theMatrix n entries) k c (weightIn (candidates weightLimit k rows) c) (weightIn larger c)
+      tried = enlarged-trial (theMatrix n entries) weightLimit (matrixTrial (distance n entries)) (matrix-plain n entries accepted) k fits pk rows (well .clean .up) c m
 
-      here : (weightIn larger c ≤ weightIn (candidates weightLimit k rows) c) × New (theMatrix n entries accepted) (weightIn larger c) k c
+      here : (weightIn larger c ≤ weightIn (candidates weightLimit k rows) c) × New (theMatrix n entries) (weightIn larger c) k c
       here = tried .least (weightIn larger c) above .0 (le-refl (weightIn larger c))
 
       go : (weightIn larger c ≡ start) ⊎ ((x y z : ℕ) × (x < suc k) × (y < suc k) × (z < suc k) × Parted c k x y z × Unit {0} × (score (distance n entries) k x y z ≡ pos (weightIn larger c)))
@@ -115,8 +115,8 @@ module _ (n : ℕ) (entries : List ℕ) (accepted : AcceptedMatrix n entries) (k
       go (inl e) (no q) = inl (q, e)
       go (inl e) (yes q) =
           let limit : weightIn larger c ≡ weightLimit = e ∙ ap (weightIn (candidates weightLimit k rows)) q ∙ start-alone weightLimit k rows (well .clean .up) in
-          let new : New (theMatrix n entries accepted) weightLimit k (2 ^ k) =
-              subst (New (theMatrix n entries accepted) weightLimit k) q (subst (λ (t : ℕ). New (theMatrix n entries accepted) t k c) limit (here .1)) in
+          let new : New (theMatrix n entries) weightLimit k (2 ^ k) =
+              subst (New (theMatrix n entries) weightLimit k) q (subst (λ (t : ℕ). New (theMatrix n entries) t k c) limit (here .1)) in
           let (u, u′, v, v′, x, i, s) = alone-reached new in
           inr (u, u′, v, v′, subst (λ (b : ℕ). Across (suc k) b u u′ v v′) (sym q) x, i, s ∙ ap pos (sym limit))
 
@@ -124,10 +124,10 @@ module _ (n : ℕ) (entries : List ℕ) (accepted : AcceptedMatrix n entries) (k
   unfolding larger
   matrix-growth =
       record {
-        up = enlarged-well (theMatrix n entries accepted) weightLimit (matrixTrial (distance n entries)) (matrix-plain n entries accepted) k fits pk rows (well .clean .up) well
+        up = enlarged-well (theMatrix n entries) weightLimit (matrixTrial (distance n entries)) (matrix-plain n entries accepted) k fits pk rows (well .clean .up) well
             .clean .up;
         exact = λ c.
-            let e = rule-exact (theMatrix n entries accepted) weightLimit (matrixTrial (distance n entries)) (matrix-plain n entries accepted) k fits pk rows well c in (
+            let e = rule-exact (theMatrix n entries) weightLimit (matrixTrial (distance n entries)) (matrix-plain n entries accepted) k fits pk rows well c in (
               (λ m. let p = e .0 m in (p .0, λ u u′ v v′ x i. above-zero (score (distance n entries) u u′ v v′) .0 (p .1 u u′ v v′ x i tt))),
               (λ p. e .1 (p .0, λ u u′ v v′ x i asked. above-zero (score (distance n entries) u u′ v v′) .1 (p .1 u u′ v v′ x i))),
             );

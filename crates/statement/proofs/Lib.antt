@@ -25,3 +25,6 @@ pub mod Allowance
 pub mod Accepted
 pub mod Ties
 pub mod GrowthRule
+pub mod Groups
+pub mod Scores
+pub mod Walks

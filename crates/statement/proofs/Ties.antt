@@ -55,21 +55,21 @@ module _ (n : ℕ) (d : ℕ → ℕ → ℕ) where
     }),
   )
 
-module _ (n : ℕ) (entries : List ℕ) (accepted : AcceptedMatrix n entries) where
-  abbrev pub theMatrix : Rule
-  theMatrix = matrixRule n (distance n entries)
+abbrev pub theMatrix : ℕ → List ℕ → Rule
+theMatrix n entries = matrixRule n (distance n entries)
 
-  pub matrix-plain : Plain theMatrix weightLimit (matrixTrial (distance n entries))
+module _ (n : ℕ) (entries : List ℕ) (accepted : AcceptedMatrix n entries) where
+  pub matrix-plain : Plain (theMatrix n entries) weightLimit (matrixTrial (distance n entries))
   matrix-plain =
       record {
         laws = matrix-laws n (distance n entries) (accepted .same);
         never = λ k p. refl;
         caps = λ k c. refl;
-        tries = λ k c w. new-trial theMatrix k c w _ (matrix-trial n (distance n entries) (suc k) k c w);
+        tries = λ k c w. new-trial (theMatrix n entries) k c w _ (matrix-trial n (distance n entries) (suc k) k c w);
       }
 
   -- a split has a four (00|vv), and no score passes the limit
-  matrix-caps : (k c : ℕ) → 0 < k → k ≤ n → Split k c → Caps theMatrix k c
+  matrix-caps : (k c : ℕ) → 0 < k → k ≤ n → Split k c → Caps (theMatrix n entries) k c
   matrix-caps k c pk fits sp =
       record {
         bare = λ b. let (v, lv, z, o) = lt-bit k 0 c (sp .some) (sp .below) in absurd (b 0 0 v v pk pk lv lv (sp .free) (sp .free) o o tt);
@@ -83,34 +83,34 @@ module _ (n : ℕ) (entries : List ℕ) (accepted : AcceptedMatrix n entries) wh
       }
 
   -- the weight, in the document's words, is the weight by thresholds
-  pub matrix-weight : (k c w : ℕ) → 0 < k → k ≤ n → Split k c → 0 < w → Weight theMatrix k c w ↔ MatrixWeight (distance n entries) k c (pos w)
+  pub matrix-weight : (k c w : ℕ) → 0 < k → k ≤ n → Split k c → 0 < w → Weight (theMatrix n entries) k c w ↔ MatrixWeight (distance n entries) k c (pos w)
   matrix-weight k c w pk fits sp pw = (there, back)
     where
-      there : Weight theMatrix k c w → MatrixWeight (distance n entries) k c (pos w)
-      there x = go (weight-of theMatrix (λ k c u u′ v v′. yes tt) k c w (matrix-caps k c pk fits sp) pw x)
+      there : Weight (theMatrix n entries) k c w → MatrixWeight (distance n entries) k c (pos w)
+      there x = go (weight-of (theMatrix n entries) (λ k c u u′ v v′. yes tt) k c w (matrix-caps k c pk fits sp) pw x)
         where
-          some : (Bare theMatrix k c × (w ≡ 1)) ⊎ Reached theMatrix k c w → (u u′ v v′ : ℕ) × Across k c u u′ v v′ × (score (distance n entries) u u′ v v′ ≡ pos w)
+          some : (Bare (theMatrix n entries) k c × (w ≡ 1)) ⊎ Reached (theMatrix n entries) k c w → (u u′ v v′ : ℕ) × Across k c u u′ v v′ × (score (distance n entries) u u′ v v′ ≡ pos w)
           some (inl (b, e)) = let (v, lv, z, o) = lt-bit k 0 c (sp .some) (sp .below) in absurd (b 0 0 v v pk pk lv lv (sp .free) (sp .free) o o tt)
           some (inr (u, u′, v, v′, lu, lu′, lv, lv′, ou, ou′, iv, iv′, a, e)) = (u, u′, v, v′, across k c u u′ v v′ lu lu′ lv lv′ ou ou′ iv iv′, e)
 
-          go : WeightOf theMatrix k c w → MatrixWeight (distance n entries) k c (pos w)
+          go : WeightOf (theMatrix n entries) k c w → MatrixWeight (distance n entries) k c (pos w)
           go y =
               record {
                 least = λ u u′ v v′ x. y .over u u′ v v′ (x .u-below) (x .u′-below) (x .v-below) (x .v′-below) (x .u-out) (x .u′-out) (x .v-in) (x .v′-in) tt;
                 reached = some (y .reached);
               }
 
-      back : MatrixWeight (distance n entries) k c (pos w) → Weight theMatrix k c w
+      back : MatrixWeight (distance n entries) k c (pos w) → Weight (theMatrix n entries) k c w
       back y =
           let (u, u′, v, v′, x, e) = y .reached in
-          of-weight theMatrix k c w (matrix-caps k c pk fits sp)
+          of-weight (theMatrix n entries) k c w (matrix-caps k c pk fits sp)
           (record {
             over = λ a a′ b b′ la la′ lb lb′ oa oa′ ib ib′ asked. y .least a a′ b b′ (across k c a a′ b b′ la la′ lb lb′ oa oa′ ib ib′);
             reached = inr (u, u′, v, v′, x .u-below, x .u′-below, x .v-below, x .v′-below, x .u-out, x .u′-out, x .v-in, x .v′-in, tt, e);
           })
 
   -- THE FULL ANSWER of the matrix
-  pub matrix-answer : (k : ℕ) (rows : List Row) → 0 < k → k ≤ n → FullRows theMatrix k rows ↔ MatrixAnswer n entries k rows
+  pub matrix-answer : (k : ℕ) (rows : List Row) → 0 < k → k ≤ n → FullRows (theMatrix n entries) k rows ↔ MatrixAnswer n entries k rows
   matrix-answer k rows pk fits = (
     (λ f. record {
       up = f .full .up;
@@ -118,7 +118,7 @@ module _ (n : ℕ) (entries : List ℕ) (accepted : AcceptedMatrix n entries) wh
       weigh = λ c m.
           let s = f .full .exact c .0 m in
           let x = f .weights c m in
-          matrix-weight k c (weightIn rows c) pk fits (s .split) (weight-supports theMatrix (matrix-plain .laws) k c (weightIn rows c) x .1 (s .fours)) .0 x;
+          matrix-weight k c (weightIn rows c) pk fits (s .split) (weight-supports (theMatrix n entries) (matrix-plain .laws) k c (weightIn rows c) x .1 (s .fours)) .0 x;
     }),
     (λ f. record {
       full = record {
@@ -135,28 +135,28 @@ module _ (n : ℕ) (entries : List ℕ) (accepted : AcceptedMatrix n entries) wh
           leb→le 1 w (subst (λ (z : ℤ). T (leZ (pos 1) z)) e (above-zero (score (distance n entries) u u′ v v′) .1 (s .fours u u′ v v′ x) .le))
 
 -- THE TABLE
-module _ (n : ℕ) (bytes : List ℕ) where
-  abbrev pub theTable : Rule
-  theTable = tableRule n bytes
+abbrev pub theTable : ℕ → List ℕ → Rule
+theTable n bytes = tableRule n bytes
 
-  pub table-plain : Plain theTable tableWeight (tableTrial bytes)
+module _ (n : ℕ) (bytes : List ℕ) where
+  pub table-plain : Plain (theTable n bytes) tableWeight (tableTrial bytes)
   table-plain =
       record {
         laws = table-laws n bytes;
         never = λ k p. refl;
         caps = λ k c. refl;
-        tries = λ k c w. new-trial theTable k c w _ (table-trial n bytes (suc k) k c w);
+        tries = λ k c w. new-trial (theTable n bytes) k c w _ (table-trial n bytes (suc k) k c w);
       }
 
   -- a four of different taxa scores above zero where it stands in the table
-  pub stands-above : (w x y z : ℕ) → Distinct w x y z → (stands bytes w x y z ≡ true) ↔ (pos 1 ≤ℤ theTable .score w x y z)
+  pub stands-above : (w x y z : ℕ) → Distinct w x y z → (stands bytes w x y z ≡ true) ↔ (pos 1 ≤ℤ (theTable n bytes) .score w x y z)
   stands-above w x y z dis = subst (λ (s : ℤ). (stands bytes w x y z ≡ true) ↔ (pos 1 ≤ℤ s)) (sym (stands-one bytes w x y z dis)) (go (stands bytes w x y z))
     where
       go : (b : Bool) → (b ≡ true) ↔ (pos 1 ≤ℤ pos (cond b tableWeight 0))
       go true = ((λ e. record { le = tt }), (λ h. refl))
       go false = ((λ e. absurd (let z : _≡_ {A = ℕ} 0 1 = cc in omega arith)), (λ h. absurd (h .le)))
 
-  pub table-supported : (k c : ℕ) → TableSupported bytes k c ↔ Supported theTable k c
+  pub table-supported : (k c : ℕ) → TableSupported bytes k c ↔ Supported (theTable n bytes) k c
   table-supported k c = (
     (λ s. record {
       split = s .split;
@@ -173,18 +173,18 @@ module _ (n : ℕ) (bytes : List ℕ) where
   )
 
   -- THE FULL ANSWER of the table: every weight is 1
-  table-weight : (k c w : ℕ) → Fours theTable 1 k c → Weight theTable k c w ↔ (w ≡ tableWeight)
+  table-weight : (k c w : ℕ) → Fours (theTable n bytes) 1 k c → Weight (theTable n bytes) k c w ↔ (w ≡ tableWeight)
   table-weight k c w f = (
     (λ x.
         let p : 1 ≤ w = x .least 1 (omega arith) .1 (omega arith, f) in
         omega (arith, x .least w p .0 (le-refl w) .0)),
     (λ e. record { least = λ t pt. (
-      (λ h. let q : 1 ≡ t = omega arith in (omega arith, subst (λ (m : ℕ). Fours theTable m k c) q f)),
+      (λ h. let q : 1 ≡ t = omega arith in (omega arith, subst (λ (m : ℕ). Fours (theTable n bytes) m k c) q f)),
       (λ h. omega (arith, h .0)),
     ) }),
   )
 
-  pub table-answer : (k : ℕ) (rows : List Row) → FullRows theTable k rows ↔ TableAnswer bytes k rows
+  pub table-answer : (k : ℕ) (rows : List Row) → FullRows (theTable n bytes) k rows ↔ TableAnswer bytes k rows
   table-answer k rows = (
     (λ f. record {
       up = f .full .up;

@@ -1,7 +1,8 @@
 -- Taxa are the numbers 0 to n - 1. A group of taxa is a number too: bit i says whether taxon i is in it.
 -- Document 01, "Scores and splits": Row, Conflict.
-use Prim.Native.Nat.{ℕ, _/_, _%_, _^_, _<_}
+use Prim.Native.Nat.{ℕ, zero, suc, _+_, _/_, _%_, _^_, _<_}
 use mathlib.Core.Path.{_≡_}
+use mathlib.Core.Bool.{Bool, cond}
 
 -- 1 where taxon i is in the group c, else 0
 abbrev pub bit : ℕ → ℕ → ℕ
@@ -12,6 +13,11 @@ In c i = bit c i ≡ 1
 
 abbrev pub Out : ℕ → ℕ → Type 0
 Out c i = bit c i ≡ 0
+
+-- the number of the group of those of the first n taxa that pass a test
+unfoldable pub groupOf : (ℕ → Bool) → ℕ → ℕ
+groupOf test zero = 0
+groupOf test (suc n) = groupOf test n + cond (test n) (2 ^ n) 0
 
 -- Row: a split of the first k taxa is written as the number of its group without taxon 0, its cluster; both groups are non-empty
 pub record Split (k c : ℕ) : Type 0 where

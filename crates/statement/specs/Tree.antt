@@ -1,10 +1,10 @@
 -- Document 01, "The tree": links and homes of a list, the walk up, the cluster of an edge, the path between two homes and its sum.
-use Prim.Native.Nat.{ℕ, zero, suc, _+_, _*_, _/_, _%_, _^_}
+use Prim.Native.Nat.{ℕ, zero, suc, _+_, _*_, _/_, _%_}
 use mathlib.Core.Bool.{Bool, cond, not, _&&_}
 use mathlib.Core.List.{List, [], _∷_, _++_, map}
 use lib.Dec.{leb, eqb}
 use lib.ListN.{length, getD}
-use Rattle.statement.specs.Cluster.{bit}
+use Rattle.statement.specs.Cluster.{bit, groupOf}
 use Rattle.statement.specs.Lowest.{lowest, some, none}
 use Rattle.statement.specs.Rows.{Row, row, clusters, weights}
 
@@ -56,8 +56,7 @@ onWalk t a b = some (λ s. eqb (walk t s a) b) (suc (root t))
 
 -- THE CLUSTER OF AN EDGE: the taxa below n homed at or below it
 unfoldable pub clusterOf : Tree → ℕ → ℕ → ℕ
-clusterOf t v zero = 0
-clusterOf t v (suc n) = clusterOf t v n + cond (onWalk t (getD (t .homes) n 0) v) (2 ^ n) 0
+clusterOf t v n = groupOf (λ taxon. onWalk t (getD (t .homes) taxon 0) v) n
 
 -- THE LIST OF A TREE: a row for each edge, in ascending order
 unfoldable pub insertRow : Row → List Row → List Row

@@ -1,0 +1,51 @@
+-- The number of a group has the bits that its test says. Assumes nothing.
+use Prim.Native.Nat.{ℕ, zero, suc, _+_, _^_, _≤_, _<_}
+use native.Mathlib.Omega.{arith}
+use native.Mathlib.Decide.{decLt}
+use mathlib.Core.Path.{_≡_, refl, sym, _∙_, ap}
+use mathlib.Core.Logic.{_⊎_, inl, inr}
+use mathlib.Core.Bool.{Bool, true, false, cond}
+use lib.Pow.{pow-pos}
+use Rattle.statement.specs.Cluster.{bit, In, Out, groupOf}
+use Rattle.statement.proofs.Bits.{lt-bit, bit-plus, bit-past, bit-top}
+
+pub group-below : (test : ℕ → Bool) (n : ℕ) → groupOf test n < 2 ^ n
+unfolding groupOf
+group-below test zero = omega arith
+group-below test (suc n) = go (test n) (group-below test n)
+  where
+    go : (b : Bool) → groupOf test n < 2 ^ n → groupOf test n + cond b (2 ^ n) 0 < 2 ^ suc n
+    go true h = omega arith
+    go false h = omega (arith, pow-pos n)
+
+pub group-bit : (test : ℕ → Bool) (n i : ℕ) → i < n → bit (groupOf test n) i ≡ cond (test i) 1 0
+unfolding groupOf
+group-bit test zero i l = absurd (omega arith)
+group-bit test (suc n) i l = go (test n) refl (decLt i n) (λ h. group-bit test n i h)
+  where
+    swap : groupOf test n + 2 ^ n ≡ 2 ^ n + groupOf test n
+    swap = omega arith
+
+    none : groupOf test n + 0 ≡ groupOf test n
+    none = omega arith
+
+    last : (b : Bool) → test n ≡ b → i ≡ n → _≡_ {A = ℕ} (cond b 1 0) (cond (test i) 1 0)
+    last b e q = ap (λ (t : Bool). cond {A = ℕ} t 1 0) (sym (ap test q ∙ e))
+
+    go : (b : Bool) → test n ≡ b → Dec (i < n) → (i < n → bit (groupOf test n) i ≡ cond (test i) 1 0) → bit (groupOf test n + cond b (2 ^ n) 0) i ≡ cond (test i) 1 0
+    go true e (yes h) ih = ap (λ (c : ℕ). bit c i) swap ∙ bit-plus (groupOf test n) n i h ∙ ih h
+    go false e (yes h) ih = ap (λ (c : ℕ). bit c i) none ∙ ih h
+    go true e (no h) ih =
+        let q : i ≡ n = omega arith in
+        ap (λ (c : ℕ). bit c i) swap ∙ ap (bit (2 ^ n + groupOf test n)) q ∙ bit-top (groupOf test n) n (group-below test n) ∙ last true e q
+    go false e (no h) ih =
+        let q : i ≡ n = omega arith in
+        ap (λ (c : ℕ). bit c i) none ∙ ap (bit (groupOf test n)) q ∙ bit-past (groupOf test n) n (group-below test n) ∙ last false e q
+
+-- a group that is part of another has no greater number
+pub part-le : (n a b : ℕ) → a < 2 ^ n → ((i : ℕ) → i < n → In a i → In b i) → a ≤ b
+part-le n a b la part = go (decLt b a)
+  where
+    go : Dec (b < a) → a ≤ b
+    go (yes h) = let (i, l, ob, ia) = lt-bit n b a h la in absurd (omega (arith, part i l ia))
+    go (no h) = omega arith
