@@ -114,8 +114,10 @@ matrix-accepted n entries = ((λ e. there (accepted-exactly (matrixChecks n entr
     back a =
         let pn : 0 < n = omega (arith, a .two) in (
           taxa-passed n .1 (a .two, a .few),
-          (length-passed (length entries) (n * n) .1 (a .size),
-          (diagonal-passed n pn entries .1 (a .diagonal), (distance-passed n pn entries .1 (a .limit), (pair-passed n pn entries .1 (a .same), tt)))),
+          (
+            length-passed (length entries) (n * n) .1 (a .size),
+            (diagonal-passed n pn entries .1 (a .diagonal), (distance-passed n pn entries .1 (a .limit), (pair-passed n pn entries .1 (a .same), tt))),
+          ),
         )
 
 -- ACCEPTED TABLES

@@ -54,12 +54,19 @@ module _ (n : ℕ) (entries : List ℕ) (accepted : AcceptedMatrix n entries) (k
     where
       go : Out c k ⊎ In c k → (u u′ v v′ : ℕ) × Across (suc k) c u u′ v v′ × Includes k u u′ v v′ × (score (distance n entries) u u′ v v′ ≡ pos w)
       go (inl o) = (
-        k, x, y, z,
+        k,
+        x,
+        y,
+        z,
         across (suc k) c k x y z (omega arith) lx ly lz o (p .x-side ∙ o) (omega (arith, bit-lt c y, p .y-side)) (omega (arith, bit-lt c z, p .z-side)),
-        inl refl, e,
+        inl refl,
+        e,
       )
       go (inr i) = (
-        y, z, k, x,
+        y,
+        z,
+        k,
+        x,
         across (suc k) c y z k x ly lz (omega arith) lx (omega (arith, bit-lt c y, p .y-side)) (omega (arith, bit-lt c z, p .z-side)) i (p .x-side ∙ i),
         inr (inr (inl refl)),
         matrix-plain n entries accepted .laws .flip (suc k) c k x y z (omega arith) (omega arith) (omega arith) (omega arith) tt .1 ∙ e,
@@ -116,7 +123,7 @@ module _ (n : ℕ) (entries : List ℕ) (accepted : AcceptedMatrix n entries) (k
       go (inl e) (yes q) =
           let limit : weightIn larger c ≡ weightLimit = e ∙ ap (weightIn (candidates weightLimit k rows)) q ∙ start-alone weightLimit k rows (well .clean .up) in
           let new : New (theMatrix n entries) weightLimit k (2 ^ k) =
-              subst (New (theMatrix n entries) weightLimit k) q (subst (λ (t : ℕ). New (theMatrix n entries) t k c) limit (here .1)) in
+          subst (New (theMatrix n entries) weightLimit k) q (subst (λ (t : ℕ). New (theMatrix n entries) t k c) limit (here .1)) in
           let (u, u′, v, v′, x, i, s) = alone-reached new in
           inr (u, u′, v, v′, subst (λ (b : ℕ). Across (suc k) b u u′ v v′) (sym q) x, i, s ∙ ap pos (sym limit))
 
@@ -142,8 +149,11 @@ module _ (n : ℕ) (bytes : List ℕ) (k : ℕ) (fits : suc k ≤ n) (pk : 0 < k
         up = grown .clean .up;
         exact = λ c.
             let e = rule-exact (theTable n bytes) tableWeight (tableTrial bytes) (table-plain n bytes) k fits pk rows well c in (
-              (λ m. let p = e .0 m in (p .0, λ u u′ v v′ x i uu vv.
-                  let dis = apart (suc k) c u u′ v v′ x uu vv in stands-above n bytes u u′ v v′ dis .1 (p .1 u u′ v v′ x i dis))),
+              (λ m. let p = e .0 m in (
+                p .0,
+                λ u u′ v v′ x i uu vv.
+                    let dis = apart (suc k) c u u′ v v′ x uu vv in stands-above n bytes u u′ v v′ dis .1 (p .1 u u′ v v′ x i dis),
+              )),
               (λ p. e .1 (p .0, λ u u′ v v′ x i dis. stands-above n bytes u u′ v v′ dis .0 (p .1 u u′ v v′ x i (dis .wx) (dis .yz)))),
             );
         weigh = λ c m.

@@ -133,8 +133,8 @@ module _ (r : Rule) (dec : (k c u u′ v v′ : ℕ) → Dec (r .asked k c u u�
   anchored-search : (t n a c : ℕ) → Anchored r t n a c ⊎ ((x y z : ℕ) × (x < n) × (y < n) × (z < n) × Short t n a c x y z)
   anchored-search t n a c =
       elim (search-below (λ x. search-below (λ y. search-below (λ z. one-anchored t n a c x y z) n) n) n) [
-        inl f ↦ inl (λ x y z lx ly lz. f x lx y ly z lz)
-      | inr (x, lx, (y, ly, (z, lz, s))) ↦ inr (x, y, z, lx, ly, lz, s)
+        | inl f ↦ inl (λ x y z lx ly lz. f x lx y ly z lz)
+        | inr (x, lx, (y, ly, (z, lz, s))) ↦ inr (x, y, z, lx, ly, lz, s)
       ]
 
   -- a trial's answer above zero is what it started from, or the score of an asked four

@@ -178,10 +178,12 @@ module _ (n : ℕ) (bytes : List ℕ) where
     (λ x.
         let p : 1 ≤ w = x .least 1 (omega arith) .1 (omega arith, f) in
         omega (arith, x .least w p .0 (le-refl w) .0)),
-    (λ e. record { least = λ t pt. (
-      (λ h. let q : 1 ≡ t = omega arith in (omega arith, subst (λ (m : ℕ). Fours (theTable n bytes) m k c) q f)),
-      (λ h. omega (arith, h .0)),
-    ) }),
+    (λ e. record {
+      least = λ t pt. (
+        (λ h. let q : 1 ≡ t = omega arith in (omega arith, subst (λ (m : ℕ). Fours (theTable n bytes) m k c) q f)),
+        (λ h. omega (arith, h .0)),
+      );
+    }),
   )
 
   pub table-answer : (k : ℕ) (rows : List Row) → FullRows (theTable n bytes) k rows ↔ TableAnswer bytes k rows

@@ -3,6 +3,7 @@ use Prim.Native.Nat.{ℕ, zero, suc, _+_, _^_, _≤_, _<_}
 use native.Mathlib.Omega.{arith}
 use native.Mathlib.Decide.{decLt}
 use mathlib.Core.Path.{_≡_, refl, sym, _∙_, ap}
+use mathlib.Core.Logic.{_⊎_, inl, inr}
 use mathlib.Core.Bool.{Bool, true, false, not, _&&_, true≢false}
 use mathlib.Core.List.{List, [], _∷_, map}
 use lib.Dec.{eqb}
@@ -14,7 +15,7 @@ use Rattle.statement.specs.Rows.{Row, clusters, Ascending, Listed}
 use Rattle.statement.specs.Tree.{numbers, Tree, root, clusterAt, strictlyIn, linkOf, treeOf, up, walk, onWalk}
 use Rattle.statement.proofs.Bits.{zero-or-one}
 use Rattle.statement.proofs.Listed.{asc-getD, asc-mem, mem-getD}
-use Rattle.statement.proofs.Lowest.{lowest-is, some-at, none-of}
+use Rattle.statement.proofs.Lowest.{Lowest, lowest-is, none-of}
 use Rattle.statement.proofs.Groups.{part-le}
 
 -- the numbers from i on
@@ -35,3 +36,82 @@ unfolding numbers
 map-at f i zero j other l = absurd (omega arith)
 map-at f i (suc m) zero other l = ap f (omega arith)
 map-at f i (suc m) (suc j) other l = map-at f (suc i) m j other (omega arith) ∙ ap f (omega arith)
+
+module _ (n : ℕ) (rows : List Row) (asc : Ascending 1 (2 ^ n) (clusters rows)) where
+  count : length (clusters rows) ≡ length rows
+  count = length-map rows (λ r. r .cluster)
+
+  cluster-below : (i : ℕ) → i < length rows → clusterAt rows i < 2 ^ n
+  cluster-below i l = asc-mem 1 (2 ^ n) (clusters rows) asc (clusterAt rows i) (mem-getD (clusters rows) i (omega (arith, count))) .1
+
+  -- a cluster strictly in another has a lower number, and so a lower row
+  strictly-below : (i j : ℕ) → i < length rows → j < length rows → strictlyIn n (clusterAt rows i) (clusterAt rows j) ≡ true → i < j
+  strictly-below i j li lj e = go (decLt i j) (decLt j i)
+    where
+      parts : (none-test : Bool) → (other : Bool) → (none-test && other) ≡ true → (none-test ≡ true) × (other ≡ true)
+      parts true o q = (refl, q)
+      parts false o q = absurd (true≢false (sym q))
+
+      both : (not (some (λ t. eqb (bit (clusterAt rows i) t) 1 && eqb (bit (clusterAt rows j) t) 0) n) ≡ true) × (not (eqb (clusterAt rows i) (clusterAt rows j)) ≡ true)
+      both = parts _ _ e
+
+      inside : (t : ℕ) → t < n → In (clusterAt rows i) t → In (clusterAt rows j) t
+      inside t l h = at (zero-or-one (clusterAt rows j) t)
+        where
+          at : Out (clusterAt rows j) t ⊎ In (clusterAt rows j) t → In (clusterAt rows j) t
+          at (inr k) = k
+          at (inl o) =
+              absurd (true≢false (sym (rw (eq-eqb (bit (clusterAt rows i) t) 1 h) (eq-eqb (bit (clusterAt rows j) t) 0 o))
+              ∙ none-of (λ t. eqb (bit (clusterAt rows i) t) 1 && eqb (bit (clusterAt rows j) t) 0) n (not-true _ (both .0)) t l))
+
+      le : clusterAt rows i ≤ clusterAt rows j
+      le = part-le n (clusterAt rows i) (clusterAt rows j) (cluster-below i li) inside
+
+      ne : clusterAt rows i ≡ clusterAt rows j → ⊥
+      ne = eqb-false (clusterAt rows i) (clusterAt rows j) (not-true _ (both .1))
+
+      go : Dec (i < j) → Dec (j < i) → i < j
+      go (yes l) d = l
+      go (no l) (yes k) = absurd (omega (arith, asc-getD 1 (2 ^ n) (clusters rows) asc j i k (omega (arith, count)), le))
+      go (no l) (no k) = let same : i ≡ j = omega arith in absurd (ne (ap (clusterAt rows) same))
+
+  -- a link is the root or a later row
+  pub link-later : (i : ℕ) → i < length rows → (i < linkOf n rows i) × (linkOf n rows i ≤ length rows)
+  unfolding linkOf
+  link-later i l = (go (decLt (linkOf n rows i) (length rows)), omega (arith, low .to))
+    where
+      low : Lowest (λ j. strictlyIn n (clusterAt rows i) (clusterAt rows j)) 0 (length rows) (linkOf n rows i)
+      low = lowest-is (λ j. strictlyIn n (clusterAt rows i) (clusterAt rows j)) 0 (length rows)
+
+      go : Dec (linkOf n rows i < length rows) → i < linkOf n rows i
+      go (yes h) = strictly-below i (linkOf n rows i) l h (low .hit (omega arith))
+      go (no h) = omega arith
+
+  root-is : root (treeOf n rows) ≡ length rows
+  unfolding treeOf
+  root-is = length-map (numbers 0 (length rows)) (linkOf n rows) ∙ numbers-length 0 (length rows)
+
+  up-is : (v : ℕ) → v < length rows → up (treeOf n rows) v ≡ linkOf n rows v
+  unfolding treeOf
+  up-is v l = map-at (linkOf n rows) 0 (length rows) v _ l ∙ ap (linkOf n rows) (omega arith)
+
+  up-root : (v : ℕ) → length rows ≤ v → up (treeOf n rows) v ≡ length rows
+  unfolding treeOf
+  up-root v l = List·getD-eq-default (map (linkOf n rows) (numbers 0 (length rows))) (root (treeOf n rows)) (omega (arith, root-is)) ∙ root-is
+
+  -- so a walk of as many steps as remain ends at the root
+  walk-ends : (s v : ℕ) → v ≤ length rows → length rows ≤ s + v → walk (treeOf n rows) s v ≡ length rows
+  unfolding walk
+  walk-ends zero v l h = omega arith
+  walk-ends (suc s) v l h = go (decLt v (length rows)) (λ u k. walk-ends s u k)
+    where
+      go : Dec (v < length rows) → ((u : ℕ) → u ≤ length rows → length rows ≤ s + u → walk (treeOf n rows) s u ≡ length rows)
+          → walk (treeOf n rows) s (up (treeOf n rows) v) ≡ length rows
+      go (yes k) ih =
+          let q = link-later v k in
+          ap (walk (treeOf n rows) s) (up-is v k) ∙ ih (linkOf n rows v) (q .1) (omega (arith, q .0))
+      go (no k) ih = ap (walk (treeOf n rows) s) (up-root v (omega arith)) ∙ ih (length rows) (omega arith) (omega arith)
+
+  -- EVERY WALK UP THE TREE OF A LIST ENDS AT ITS ROOT
+  pub walks-end : (v : ℕ) → v ≤ length rows → walk (treeOf n rows) (length rows) v ≡ root (treeOf n rows)
+  walks-end v l = walk-ends (length rows) v l (omega arith) ∙ sym root-is

@@ -1,0 +1,75 @@
+-- THE THREE DEMANDS, as statements. What stands in them are the definitions of the crate `statement`, and nothing else has to be believed.
+use Prim.Native.Nat.{ℕ, suc, _+_, _*_, _-_, _^_, _≤_, _<_}
+use mathlib.Core.Path.{_≡_}
+use mathlib.Core.Logic.{_≢_, _↔_}
+use mathlib.Core.Bool.{Bool, true, not, Bool·beq}
+use mathlib.Core.List.{List}
+use lib.ListN.{length}
+use lib.IntN.{pos, negℤ}
+use lib.Signed.{_≤ℤ_, _<ℤ_}
+use Rattle.statement.specs.declared.Splits.{Splits}
+use Rattle.statement.specs.declared.Growth.{Growth}
+use Rattle.statement.specs.declared.Outcome.{Outcome}
+use Rattle.statement.specs.declared.Outcome.the-variants.{Done, Short, Refused}
+use Rattle.statement.specs.Cluster.{groupOf, Conflict}
+use Rattle.statement.specs.Matrix.{distance, score, weightLimit, AcceptedMatrix, MatrixWeight}
+use Rattle.statement.specs.Table.{stands, tableWeight, AcceptedTable}
+use Rattle.statement.specs.Rows.{clusters, Listed, weightIn, Ascending, rowsOf, WellFormed}
+use Rattle.statement.specs.Growing.{MatrixGrowth, TableGrowth}
+use Rattle.statement.specs.Tree.{root, treeOf, walk}
+use Rattle.statement.specs.Refusals.{Check, Given}
+
+-- A WAY TO PART the first n trees into two non-empty groups: the side of each; some tree is on another side than tree 0
+pub record Way (n : ℕ) : Type 0 where
+  pub side : ℕ → Bool
+  pub other : (i : ℕ) × (i < n) × (side i ≢ side 0)
+
+-- its group number: that of the group without tree 0
+abbrev pub groupNumber : (n : ℕ) → Way n → ℕ
+groupNumber n way = groupOf (λ i. not (Bool·beq (way .side i) (way .side 0))) n
+
+-- every four uu'|vv' with u and u' in one group, v and v' in the other
+abbrev pub EveryFour : (n : ℕ) → Way n → (ℕ → ℕ → ℕ → ℕ → Type 0) → Type 0
+EveryFour n way Above =
+    (u u′ v v′ : ℕ) → u < n → u′ < n → v < n → v′ < n → way .side u ≡ way .side u′ → way .side v ≡ way .side v′ → way .side u ≢ way .side v
+    → Above u u′ v v′
+
+-- what the rule asks about scores above zero: on a matrix every four, repeats too; on a table each four of different taxa stands in it, so parted
+abbrev pub MatrixAbove : ℕ → List ℕ → ℕ → ℕ → ℕ → ℕ → Type 0
+MatrixAbove n entries u u′ v v′ = pos 0 <ℤ score (distance n entries) u u′ v v′
+
+abbrev pub TableAbove : List ℕ → ℕ → ℕ → ℕ → ℕ → Type 0
+TableAbove bytes u u′ v v′ = u ≢ u′ → v ≢ v′ → stands bytes u u′ v v′ ≡ true
+
+-- DEMAND 3. "Of every way to part the trees into two non-empty groups, the list holds each way whose every four the rule asks about scores above
+-- zero, once, lowest group number first, and no other. No two listed splits conflict, there are at most 2n-3, and every walk up the finished tree
+-- ends at its root."
+pub record Demand3 (n : ℕ) (Above : ℕ → ℕ → ℕ → ℕ → Type 0) (reply : Growth) : Type 0 where
+  pub finished : (reply .outcome ≡ Done) × (reply .list .taxa ≡ n)
+  pub holds-each : (way : Way n) → EveryFour n way Above → Listed (groupNumber n way) (rowsOf (reply .list))
+  pub once-lowest-first : Ascending 1 (2 ^ n) (clusters (rowsOf (reply .list)))
+  pub no-other : (c : ℕ) → Listed c (rowsOf (reply .list)) → (way : Way n) × (groupNumber n way ≡ c) × EveryFour n way Above
+  pub no-conflict : (a b : ℕ) → Listed a (rowsOf (reply .list)) → Listed b (rowsOf (reply .list)) → Conflict n a b → ⊥
+  pub at-most : reply .list .rows ≤ 2 * n - 3
+  pub walks-end : (v : ℕ) → v ≤ reply .list .rows
+      → walk (treeOf n (rowsOf (reply .list))) (reply .list .rows) v ≡ root (treeOf n (rowsOf (reply .list)))
+
+-- and what it costs: at most 2n² - 7n + 7 trials
+abbrev pub FewTrials : ℕ → Growth → Type 0
+FewTrials n reply = reply .trials + 7 * n ≤ 2 * (n * n) + 7
+
+-- DEMAND 2, of the weights: each listed split weighs the least score over its fours; on a table, 1
+abbrev pub MatrixWeights : ℕ → List ℕ → Growth → Type 0
+MatrixWeights n entries reply =
+    (c : ℕ) → Listed c (rowsOf (reply .list)) → MatrixWeight (distance n entries) n c (pos (weightIn (rowsOf (reply .list)) c))
+
+abbrev pub TableWeights : Growth → Type 0
+TableWeights reply = (c : ℕ) → Listed c (rowsOf (reply .list)) → weightIn (rowsOf (reply .list)) c ≡ tableWeight
+
+-- DEMAND 1: a reply is refused with a number at a place exactly when the table of refusals says so
+abbrev pub ExactlyWhen : Outcome → List Check → Type 0
+ExactlyWhen outcome checks = (number place : ℕ) → (outcome ≡ Refused number place) ↔ Given checks number place
+
+-- "No refusal alters a lent buffer": where the outcome is a refusal, what the buffer holds afterwards is what it held before
+abbrev pub Unaltered : Outcome → List ℕ → List ℕ → Type 0
+Unaltered outcome before after = (number place : ℕ) → outcome ≡ Refused number place → after ≡ before
