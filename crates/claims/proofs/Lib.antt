@@ -1,1 +1,3 @@
 pub mod Ways
+pub mod Demand3
+pub mod Demand1

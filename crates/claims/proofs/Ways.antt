@@ -66,7 +66,7 @@ module _ (n : ℕ) (pn : 0 < n) (way : Way n) where
       go (suc c) e = omega arith
 
 -- and every split is that of a way
-number-way : (n c : ℕ) → 0 < n → Split n c → (way : Way n) × (groupNumber n way ≡ c) × ((i : ℕ) → way .side i ≡ eqb (bit c i) 1)
+pub number-way : (n c : ℕ) → 0 < n → Split n c → (way : Way n) × (groupNumber n way ≡ c) × ((i : ℕ) → way .side i ≡ eqb (bit c i) 1)
 number-way n c pn s =
     let (i, l, z, o) = lt-bit n 0 c (s .some) (s .below) in
     let way : Way n = record { side = λ j. eqb (bit c j) 1; other = (i, l, λ e. true≢false (sym (eq-eqb (bit c i) 1 o) ∙ e ∙ ne-eqb (bit c 0) 1 (λ q. omega (arith, s .free)))) } in
