@@ -15,3 +15,4 @@ pub mod Listed
 pub mod Full
 pub mod Reached
 pub mod Lowest
+pub mod WellFormed
