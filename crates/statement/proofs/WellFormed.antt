@@ -3,53 +3,62 @@ use Prim.Native.Nat.{ℕ, zero, suc, _+_, _*_, _-_, _^_, _≤_, _<_}
 use native.Mathlib.Omega.{arith}
 use native.Mathlib.Decide.{decLt}
 use mathlib.Core.Path.{_≡_, refl, sym, _∙_, ap, ap₂, subst}
-use mathlib.Core.Logic.{_⊎_, inl, inr, _↔_}
+use mathlib.Core.Logic.{_⊎_, inl, inr, _↔_, Iff·trans}
 use mathlib.Core.Bool.{Bool, true, false, not, _&&_, _||_, and-eq-true-iff, true≢false, false≢true}
 use mathlib.Core.List.{List, [], _∷_, map}
 use lib.Dec.{ltb, leb, eqb}
-use lib.ListN.{length, take, getD, length-take}
+use lib.ListN.{length, take, getD, length-map}
 use lib.Seq.{length-take-le, getD-take}
 use lib.Pow.{pow-pos}
 use borrow.Author.Tests.{ltb-true, lt-ltb, leb-true, leb-false, le-leb, lt-leb, eqb-true, eq-eqb, not-true, not-false}
 use Rattle.statement.specs.declared.Splits.{Splits}
 use Rattle.statement.specs.Cluster.{bit, In, Out, Split, Conflict}
 use Rattle.statement.specs.Lowest.{some, none}
-use Rattle.statement.specs.Rows.{clusters, weights, zip, rowsOf, Mem, Ascending, meets, conflicts, badRow, wellFormed, WellFormed}
+use Rattle.statement.specs.Rows.{Row, Listed, clusters, weights, zip, rowsOf, Mem, Ascending, meets, conflicts, badRow, wellFormed, WellFormed}
 use Rattle.statement.proofs.Lowest.{some-at, some-of, none-of, none-at}
 use Rattle.statement.proofs.Listed.{asc-mem, asc-getD, mem-getD}
 
--- A LIST'S COLUMNS: what its rows hold is the front of each array
-zip-clusters : (xs ys : List ℕ) → length xs ≡ length ys → clusters (zip xs ys) ≡ xs
-zip-clusters [] ys h = refl
-zip-clusters (x ∷ xs) [] h = absurd (omega arith)
-zip-clusters (x ∷ xs) (y ∷ ys) h = ap (λ (l : List ℕ). x ∷ l) (zip-clusters xs ys (omega arith))
+-- A LIST'S COLUMNS. xs is the front of ys, m places long
+pub record Front (m : ℕ) (xs ys : List ℕ) : Type 0 where
+  pub long : length xs ≡ m
+  pub at : (i : ℕ) → i < m → getD xs i 0 ≡ getD ys i 0
 
-zip-weights : (xs ys : List ℕ) → length xs ≡ length ys → weights (zip xs ys) ≡ ys
-zip-weights [] [] h = refl
-zip-weights [] (y ∷ ys) h = absurd (omega arith)
-zip-weights (x ∷ xs) [] h = absurd (omega arith)
-zip-weights (x ∷ xs) (y ∷ ys) h = ap (λ (l : List ℕ). y ∷ l) (zip-weights xs ys (omega arith))
+front-take : (m : ℕ) (xs ys : List ℕ) → m ≤ length ys → xs ≡ take m ys → Front m xs ys
+front-take m xs ys h e = record { long = ap length e ∙ length-take-le m ys h; at = λ i l. ap (λ (zs : List ℕ). getD zs i 0) e ∙ getD-take m ys i 0 l }
 
--- a list in its fixed room
+zip-columns : (xs ys : List ℕ) → length xs ≡ length ys → (clusters (zip xs ys) ≡ xs) × (weights (zip xs ys) ≡ ys)
+zip-columns [] [] h = (refl, refl)
+zip-columns [] (y ∷ ys) h = absurd (omega arith)
+zip-columns (x ∷ xs) [] h = absurd (omega arith)
+zip-columns (x ∷ xs) (y ∷ ys) h =
+    let (a, b) = zip-columns xs ys (omega arith) in (ap (λ (l : List ℕ). x ∷ l) a, ap (λ (l : List ℕ). y ∷ l) b)
+
+-- a list whose used rows lie within its fixed room
 pub record Roomy (s : Splits) : Type 0 where
   pub clusters : length (s .clusters) ≡ 125
   pub weights : length (s .weights) ≡ 125
   pub rows : s .rows ≤ 125
 
 module _ (s : Splits) (room : Roomy s) where
-  clusters-long : length (take (s .rows) (s .clusters)) ≡ s .rows
-  clusters-long = length-take-le (s .rows) (s .clusters) (omega (arith, room .clusters, room .rows))
+  within : (xs : List ℕ) → length xs ≡ 125 → s .rows ≤ length xs
+  within xs e = omega (arith, room .rows)
 
-  weights-long : length (take (s .rows) (s .weights)) ≡ s .rows
-  weights-long = length-take-le (s .rows) (s .weights) (omega (arith, room .weights, room .rows))
-
-  pub clusters-are : clusters (rowsOf s) ≡ take (s .rows) (s .clusters)
+  columns : (clusters (rowsOf s) ≡ take (s .rows) (s .clusters)) × (weights (rowsOf s) ≡ take (s .rows) (s .weights))
   unfolding rowsOf
-  clusters-are = zip-clusters (take (s .rows) (s .clusters)) (take (s .rows) (s .weights)) (clusters-long ∙ sym weights-long)
+  columns =
+      zip-columns (take (s .rows) (s .clusters)) (take (s .rows) (s .weights))
+      (length-take-le (s .rows) (s .clusters) (within (s .clusters) (room .clusters))
+      ∙ sym (length-take-le (s .rows) (s .weights) (within (s .weights) (room .weights))))
 
-  pub weights-are : weights (rowsOf s) ≡ take (s .rows) (s .weights)
-  unfolding rowsOf
-  weights-are = zip-weights (take (s .rows) (s .clusters)) (take (s .rows) (s .weights)) (clusters-long ∙ sym weights-long)
+  -- the rows hold the fronts of the two arrays, and are as many as the list says
+  pub clusters-front : Front (s .rows) (clusters (rowsOf s)) (s .clusters)
+  clusters-front = front-take (s .rows) (clusters (rowsOf s)) (s .clusters) (within (s .clusters) (room .clusters)) (columns .0)
+
+  pub weights-front : Front (s .rows) (weights (rowsOf s)) (s .weights)
+  weights-front = front-take (s .rows) (weights (rowsOf s)) (s .weights) (within (s .weights) (room .weights)) (columns .1)
+
+  pub rows-length : length (rowsOf s) ≡ s .rows
+  rows-length = sym (length-map (rowsOf s) (λ r. r .cluster)) ∙ clusters-front .long
 
 -- TESTS, and what they say
 less-is : (a b : ℕ) → (ltb a b ≡ true) ↔ (a < b)
@@ -131,3 +140,100 @@ row-is most s i =
     let all = neither-is (not-is (fit-is most (s .taxa) c (getD (s .weights) i 0)))
     (none-is (λ j. leb c (getD (s .clusters) j 0) || conflicts (s .taxa) (getD (s .clusters) j 0) c) i (λ j. beside-is (s .taxa) (getD (s .clusters) j 0) c)) in
     (λ e. record { fit = all .0 e .0; beside = all .0 e .1 }, λ h. all .1 (h .fit, h .beside))
+
+-- ascending, place by place
+asc-of : (low high : ℕ) (xs : List ℕ) → low ≤ high → ((i : ℕ) → i < length xs → (low ≤ getD xs i 0) × (getD xs i 0 < high))
+    → ((i j : ℕ) → i < j → j < length xs → getD xs i 0 < getD xs j 0) → Ascending low high xs
+asc-of low high [] h f g = h
+asc-of low high (x ∷ xs) h f g =
+    (f 0 (omega arith) .0,
+    asc-of (suc x) high xs (f 0 (omega arith) .1) (λ i l. (g 0 (suc i) (omega arith) (omega arith), f (suc i) (omega arith) .1))
+    (λ i j b l. g (suc i) (suc j) (omega arith) (omega arith)))
+
+-- MEMBERS BY THEIR PLACES, of a front xs of ys
+module _ (m : ℕ) (xs ys : List ℕ) (front : Front m xs ys) where
+  member-at : (c : ℕ) → Mem c xs → (i : ℕ) × (i < m) × (c ≡ getD ys i 0)
+  member-at c h =
+      let (i, l, e) = mem-at xs h in
+      let b : i < m = omega (arith, front .long) in
+      (i, b, e ∙ front .at i b)
+    where
+      mem-at : (zs : List ℕ) → Mem c zs → (i : ℕ) × (i < length zs) × (c ≡ getD zs i 0)
+      mem-at (z ∷ zs) (inl e) = (0, omega arith, e)
+      mem-at (z ∷ zs) (inr h) = let (i, l, e) = mem-at zs h in (suc i, omega arith, e)
+
+  member-of : (i : ℕ) → i < m → Mem (getD ys i 0) xs
+  member-of i l = subst (λ (c : ℕ). Mem c xs) (front .at i l) (mem-getD xs i (omega (arith, front .long)))
+
+  ascending-of : (low high : ℕ) → low ≤ high → ((i : ℕ) → i < m → (low ≤ getD ys i 0) × (getD ys i 0 < high))
+      → ((i j : ℕ) → i < j → j < m → getD ys i 0 < getD ys j 0) → Ascending low high xs
+  ascending-of low high h f g =
+      asc-of low high xs h
+      (λ i l. let b : i < m = omega (arith, front .long) in subst (λ (c : ℕ). (low ≤ c) × (c < high)) (sym (front .at i b)) (f i b))
+      (λ i j b l. omega (arith, g i j b (omega (arith, front .long)), front .at i (omega (arith, front .long)), front .at j (omega (arith, front .long))))
+
+  ascending-at : (low high : ℕ) → Ascending low high xs → (i j : ℕ) → i < j → j < m → getD ys i 0 < getD ys j 0
+  ascending-at low high h i j p l =
+      omega (arith, asc-getD low high xs h i j p (omega (arith, front .long)), front .at i (omega arith), front .at j l)
+
+-- of two rows, one is before the other or they are one
+conflict-turned : (k a b : ℕ) → Conflict k a b → Conflict k b a
+conflict-turned k a b h =
+    let (i, li, ai, bi) = h .ii in
+    let (j, lj, aj, bj) = h .io in
+    let (l, ll, al, bl) = h .oi in
+    let (m, lm, am, bm) = h .oo in
+    record { ii = (i, li, bi, ai); io = (l, ll, bl, al); oi = (j, lj, bj, aj); oo = (m, lm, bm, am) }
+
+clean-pairs : (k : ℕ) (f : ℕ → ℕ) (i j : ℕ) → (i < j → Conflict k (f i) (f j) → ⊥) → (j < i → Conflict k (f j) (f i) → ⊥) → Conflict k (f i) (f j) → ⊥
+clean-pairs k f i j before after h = go (decLt i j) (decLt j i)
+  where
+    go : Dec (i < j) → Dec (j < i) → ⊥
+    go (yes l) d = before l h
+    go (no l) (yes g) = after g (conflict-turned k (f i) (f j) h)
+    go (no l) (no g) = let e : i ≡ j = omega arith in let (t, b, x, y) = h .io in omega (arith, x, y, ap (λ (z : ℕ). bit (f z) t) e)
+
+-- THE WHOLE: the rows are good, each by itself and beside those before it, exactly where the list is as document 01 says
+module _ (most n : ℕ) (s : Splits) (room : Roomy s) where
+  listed-at : (c : ℕ) → Listed c (rowsOf s) → (i : ℕ) × (i < s .rows) × (c ≡ getD (s .clusters) i 0)
+  listed-at = member-at (s .rows) (clusters (rowsOf s)) (s .clusters) (clusters-front s room)
+
+  listed-of : (i : ℕ) → i < s .rows → Listed (getD (s .clusters) i 0) (rowsOf s)
+  listed-of = member-of (s .rows) (clusters (rowsOf s)) (s .clusters) (clusters-front s room)
+
+  rows-good : ((i : ℕ) → i < s .rows → GoodRow most s i) → 1 ≤ s .taxa → s .taxa ≤ n → s .rows ≤ 2 * s .taxa - 3 → WellFormed most n s
+  rows-good good one taxa few = record {
+    one = one;
+    taxa = taxa;
+    few = few;
+    up = ascending-of (s .rows) (clusters (rowsOf s)) (s .clusters) (clusters-front s room) 1 (2 ^ s .taxa) (pow-pos (s .taxa))
+    (λ i l. (good i l .fit .split .some, good i l .fit .split .below)) (λ i j b l. good j l .beside i b .above);
+    free = λ c m. let (i, l, e) = listed-at c m in ap (λ (x : ℕ). bit x 0) e ∙ good i l .fit .split .free;
+    weigh = λ w m. let (i, l, e) = member-at (s .rows) (weights (rowsOf s)) (s .weights) (weights-front s room) w m in
+    (omega (arith, e, good i l .fit .low), omega (arith, e, good i l .fit .high));
+    clean = λ a b ma mb h. let (i, li, ea) = listed-at a ma in let (j, lj, eb) = listed-at b mb in
+    clean-pairs (s .taxa) (λ x. getD (s .clusters) x 0) i j (λ l. good j lj .beside i l .clean) (λ l. good i li .beside j l .clean)
+    (subst (λ (x : ℕ). Conflict (s .taxa) x (getD (s .clusters) j 0)) ea (subst (λ (x : ℕ). Conflict (s .taxa) a x) eb h));
+  }
+
+  good-rows : WellFormed most n s → (i : ℕ) → i < s .rows → GoodRow most s i
+  good-rows w i l =
+      let (low, high) = asc-mem 1 (2 ^ s .taxa) (clusters (rowsOf s)) (w .up) (getD (s .clusters) i 0) (listed-of i l) in
+      let (light, heavy) = w .weigh (getD (s .weights) i 0) (member-of (s .rows) (weights (rowsOf s)) (s .weights) (weights-front s room) i l) in
+      record {
+        fit = record { split = record { some = low; below = high; free = w .free (getD (s .clusters) i 0) (listed-of i l) }; low = light; high = heavy };
+        beside = λ j b. record {
+          above = ascending-at (s .rows) (clusters (rowsOf s)) (s .clusters) (clusters-front s room) 1 (2 ^ s .taxa) (w .up) j i b l;
+          clean = w .clean (getD (s .clusters) j 0) (getD (s .clusters) i 0) (listed-of j (omega arith)) (listed-of i l);
+        };
+      }
+
+pub well-formed-is : (most n : ℕ) (s : Splits) → length (s .clusters) ≡ 125 → length (s .weights) ≡ 125 → n ≤ 64 → (wellFormed most n s ≡ true) ↔ WellFormed most n s
+unfolding wellFormed
+well-formed-is most n s hc hw hn =
+    let good : (none (badRow most s) (s .rows) ≡ true) ↔ ((i : ℕ) → i < s .rows → GoodRow most s i) =
+    Iff·trans (not-true (some (badRow most s) (s .rows)), ap not) (none-is (badRow most s) (s .rows) (row-is most s)) in
+    let all = both-is (both-is (both-is (most-is 1 (s .taxa)) (most-is (s .taxa) n)) (most-is (s .rows) (2 * s .taxa - 3))) good in
+    let room : s .taxa ≤ n → s .rows ≤ 2 * s .taxa - 3 → Roomy s = λ t f. record { clusters = hc; weights = hw; rows = omega arith } in
+    (λ e. let (((o, t), f), g) = all .0 e in rows-good most n s (room t f) g o t f,
+    λ w. all .1 (((w .one, w .taxa), w .few), good-rows most n s (room (w .taxa) (w .few)) w))
