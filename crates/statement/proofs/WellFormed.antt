@@ -80,7 +80,7 @@ neither-is {a = false} f g = (λ e. (f .0 refl, g .0 e), λ h. g .1 (h .1))
 not-is : {A : Type 0} {a : Bool} → (a ≡ true) ↔ A → (not a ≡ false) ↔ A
 not-is {A} {a} f = (λ e. f .0 (not-false a e), λ h. ap not (f .1 h))
 
-fails-is : {A : Type 0} {a : Bool} → (a ≡ true) ↔ A → (a ≡ false) ↔ (A → ⊥)
+pub fails-is : {A : Type 0} {a : Bool} → (a ≡ true) ↔ A → (a ≡ false) ↔ (A → ⊥)
 fails-is {a = true} f = (λ e. absurd (true≢false e), λ h. absurd (h (f .0 refl)))
 fails-is {a = false} f = (λ e h. false≢true (f .1 h), λ h. refl)
 
