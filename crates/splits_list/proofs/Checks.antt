@@ -34,11 +34,11 @@ module _ (k a b : ℕ) (pk : 0 < k) (sa : Split k a) (sb : Split k b) where
   abbrev Apart : Type 0
   Apart = (bitAnd a b ≢ 0) × (bitAnd a b ≢ a) × (bitAnd a b ≢ b)
 
-  pub no-clash : (Apart → ⊥) → false ≡ conflicts k a b
-  no-clash f = sym (fails-is (conflicts-is k a b) .1 (λ h. f (conflict-mask k a b sa sb pk .0 h)))
+  pub conflicts-not : (Apart → ⊥) → false ≡ conflicts k a b
+  conflicts-not f = sym (fails-is (conflicts-is k a b) .1 (λ h. f (conflict-mask k a b sa sb pk .0 h)))
 
-  pub clash : Apart → true ≡ conflicts k a b
-  clash h = sym (conflicts-is k a b .1 (conflict-mask k a b sa sb pk .1 h))
+  pub conflicts-so : Apart → true ≡ conflicts k a b
+  conflicts-so h = sym (conflicts-is k a b .1 (conflict-mask k a b sa sb pk .1 h))
 
 -- a row by itself
 module _ (most k c w : ℕ) where

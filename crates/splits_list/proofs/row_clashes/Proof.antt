@@ -5,15 +5,14 @@ use borrow.Author.Needs.{needs}
 use borrow.Author.Count.{below-none, below-more}
 use mathlib.Core.Path.{_≡_, sym, _∙_}
 use mathlib.Core.Bool.{false, true≢false}
+use lib.ListN.{getD}
+use Rattle.statement.specs.Rows.{conflicts}
 use Rattle.statement.proofs.Lowest.{some-at, none-at}
 use Rattle.statement.proofs.WellFormed.{conflicts-is}
 use Rattle.splits_list.specs.Row.{clashes}
 use Rattle.splits_list.proofs.Checks.{beside, not-beside}
 use Rattle.splits_list.proofs.row_clashes.Statement.{statement}
 use Rattle.splits_list.proofs.row_clashes.Tie as tie
-use Rattle.splits_list.proofs.row_clashes.Reads as reads
-use Rattle.splits_list.proofs.row_clashes.Lts as lts
-use Rattle.splits_list.proofs.conflict.Reads as conflict-reads
 
 abbrev Inv-loop : tie.InvT-loop
 Inv-loop k clusters i c j₀ j = (j ≤ i) × ((l : ℕ) → l < j → clashes k clusters i l ≡ false)
@@ -46,14 +45,22 @@ returns c =
 conflict-requires : tie.Need-conflict-requires Inv-loop μ-loop
 conflict-requires c κs = search needs
 
+-- row j and row i are splits, of which the call says whether they conflict
+told : (c : tie.After-conflict Inv-loop μ-loop)
+    → let l = c .before .before .before .before in
+    let a = l .before .before .args in
+    c .conflict .result ≡ conflicts (a .k) (getD (a .clusters .now) (l .loop .j) 0) (getD (a .clusters .now) (a .i) 0)
+told c =
+    let l = c .before .before .before .before in
+    let s = l .before .before in
+    c .conflict .ensures (s .args .k) (s .pre .0 .1) (s .pre .1 (l .loop .j) (omega arith)) (s .pre .1 (s .args .i) (omega arith))
+
 returns-2 : tie.Need-returns-2 Inv-loop μ-loop
 returns-2 c =
     let l = c .before .before .before .before .before in
-    let s = l .before .before in
-    let a = s .args in
-    let e = c .before .conflict .ensures (a .k) (s .pre .0 .1) (s .pre .1 (l .loop .j) (omega arith)) (s .pre .1 (a .i) (omega arith)) in
+    let a = l .before .before .args in
     sym (some-at (clashes (a .k) (a .clusters .now) (a .i)) (a .i) (l .loop .j) (c .before .before .before .before .loop-test .taken)
-    (not-beside (a .k) (a .clusters .now) (a .i) (l .loop .j) (λ h. h .clean (conflicts-is (a .k) _ _ .0 (sym e ∙ c .if2 .taken)))))
+    (not-beside (a .k) (a .clusters .now) (a .i) (l .loop .j) (λ h. h .clean (conflicts-is (a .k) _ _ .0 (sym (told (c .before)) ∙ c .if2 .taken)))))
 
 add-j : tie.Need-add-j Inv-loop μ-loop
 add-j c = search needs
@@ -64,13 +71,11 @@ loop-less c = search needs
 loop-again : tie.Need-loop-again Inv-loop μ-loop
 loop-again c =
     let l = c .before .before .before .before .before in
-    let s = l .before .before in
-    let a = s .args in
-    let e = c .before .conflict .ensures (a .k) (s .pre .0 .1) (s .pre .1 (l .loop .j) (omega arith)) (s .pre .1 (a .i) (omega arith)) in
+    let a = l .before .before .args in
     (omega arith,
     below-more _ _ (l .loop .inv .1)
     (beside (a .k) (a .clusters .now) (a .i) (l .loop .j)
-    (record { above = omega arith; clean = λ h. true≢false (sym (conflicts-is (a .k) _ _ .1 h) ∙ sym e ∙ c .if2 .left) })))
+    (record { above = omega arith; clean = λ h. true≢false (sym (conflicts-is (a .k) _ _ .1 h) ∙ sym (told (c .before)) ∙ c .if2 .left) })))
 
 returns-3 : tie.Need-returns-3 Inv-loop μ-loop
 returns-3 c =

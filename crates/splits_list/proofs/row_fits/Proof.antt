@@ -8,9 +8,6 @@ use Rattle.statement.proofs.Bits.{bit-zero}
 use Rattle.splits_list.proofs.Checks.{fit, unfit}
 use Rattle.splits_list.proofs.row_fits.Statement.{statement}
 use Rattle.splits_list.proofs.row_fits.Tie as tie
-use Rattle.splits_list.proofs.row_fits.Reads as reads
-use Rattle.splits_list.proofs.row_fits.Lts as lts
-use Rattle.splits_list.proofs.within.Reads as within-reads
 
 returns : tie.Need-returns
 returns c = unfit _ _ _ _ (λ h. omega (arith, h .split .some))

@@ -11,10 +11,6 @@ use Rattle.statement.proofs.Lowest.{some-at, none-at}
 use Rattle.splits_list.proofs.Checks.{here, bad-here, bad-against, splits}
 use Rattle.splits_list.proofs.rows_fit.Statement.{statement}
 use Rattle.splits_list.proofs.rows_fit.Tie as tie
-use Rattle.splits_list.proofs.rows_fit.Reads as reads
-use Rattle.splits_list.proofs.rows_fit.Lts as lts
-use Rattle.splits_list.proofs.row_clashes.Reads as row-clashes-reads
-use Rattle.splits_list.proofs.row_fits.Reads as row-fits-reads
 
 abbrev Inv-loop : tie.InvT-loop
 Inv-loop most s k rows clusters i₀ i = (i ≤ rows) × ((j : ℕ) → j < i → badRow most s j ≡ false)

@@ -7,10 +7,6 @@ use Prim.Native.Nat.{_*_, _-_}
 use Rattle.statement.specs.Rows.{wellFormed}
 use Rattle.splits_list.proofs.well_formed.Statement.{statement}
 use Rattle.splits_list.proofs.well_formed.Tie as tie
-use Rattle.splits_list.proofs.well_formed.Reads as reads
-use Rattle.splits_list.proofs.well_formed.Lts as lts
-use Rattle.splits_list.proofs.row_limit.Reads as row-limit-reads
-use Rattle.splits_list.proofs.rows_fit.Reads as rows-fit-reads
 
 returns : tie.Need-returns
 unfolding wellFormed

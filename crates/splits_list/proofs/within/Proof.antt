@@ -7,8 +7,6 @@ use mathlib.Core.Path.{_≡_, sym}
 use Rattle.splits_list.proofs.Checks.{shifted}
 use Rattle.splits_list.proofs.within.Statement.{statement}
 use Rattle.splits_list.proofs.within.Tie as tie
-use Rattle.splits_list.proofs.within.Reads as reads
-use Rattle.splits_list.proofs.within.Lts as lts
 
 shr-result : tie.Need-shr-result
 shr-result c = search needs
