@@ -1,12 +1,12 @@
 -- What the tests of the code say, as facts: of a cluster and its taxa, of two clusters, of a row by itself, and of row i beside row j. Assumes nothing.
-use Prim.Native.Nat.{ℕ, _/_, _%_, _^_, _≤_, _<_}
+use Prim.Native.Nat.{ℕ, _/_, _^_, _≤_, _<_}
 use native.Mathlib.Omega.{arith}
 use native.Mathlib.Decide.{decLt}
 use native.Mathlib.Nat.{div-eq-of-lt, div-lt-iff-lt-mul}
 use mathlib.Core.Path.{_≡_, refl, sym, _∙_, ap}
 use mathlib.Core.Bool.{Bool, true, false, not, _||_}
 use mathlib.Core.List.{List}
-use mathlib.Core.Logic.{_↔_, _≢_}
+use mathlib.Core.Logic.{_≢_}
 use lib.Bits.{bitAnd}
 use lib.Dec.{ltb, eqb}
 use lib.ListN.{getD}
@@ -14,20 +14,22 @@ use lib.Pow.{pow-pos}
 use borrow.Author.Count.{below-more}
 use borrow.Author.Tests.{lt-ltb, le-ltb, eq-eqb, ne-eqb}
 use Rattle.statement.specs.declared.Splits.{Splits}
-use Rattle.statement.specs.Cluster.{Split, Conflict}
+use Rattle.statement.specs.Cluster.{Split}
 use Rattle.statement.specs.Lowest.{some}
 use Rattle.statement.specs.Rows.{conflicts, badRow}
 use Rattle.statement.proofs.Mask.{conflict-mask}
 use Rattle.statement.proofs.WellFormed.{fails-is, conflicts-is, Fit, fit-is, Beside, beside-is, row-is}
 use Rattle.splits_list.specs.Row.{fits, clashes}
 
--- no taxon from k on is in the cluster c
+-- a cluster is within the first k taxa where a shift by k leaves nothing of it
 pub shifted : (k c : ℕ) → eqb (c / 2 ^ k) 0 ≡ ltb c (2 ^ k)
 shifted k c = go (decLt c (2 ^ k))
   where
     go : Dec (c < 2 ^ k) → eqb (c / 2 ^ k) 0 ≡ ltb c (2 ^ k)
     go (yes l) = eq-eqb (c / 2 ^ k) 0 (div-eq-of-lt l) ∙ sym (lt-ltb c (2 ^ k) l)
-    go (no l) = ne-eqb (c / 2 ^ k) 0 (λ e. l (let h = div-lt-iff-lt-mul {k = 2 ^ k} {x = c} {y = 1} (pow-pos k) .0 (omega arith) in omega arith)) ∙ sym (le-ltb c (2 ^ k) (omega arith))
+    go (no l) =
+        let some : c / 2 ^ k ≡ 0 → ⊥ = λ e. omega (arith, div-lt-iff-lt-mul {k = 2 ^ k} {x = c} {y = 1} (pow-pos k) .0 (omega arith)) in
+        ne-eqb (c / 2 ^ k) 0 some ∙ sym (le-ltb c (2 ^ k) (omega arith))
 
 -- two splits conflict exactly where their common group is neither empty nor one of the two clusters
 module _ (k a b : ℕ) (pk : 0 < k) (sa : Split k a) (sb : Split k b) where
@@ -76,13 +78,9 @@ module _ (most : ℕ) (s : Splits) (i : ℕ) where
   abbrev pub against : Bool
   against = some (clashes (s .taxa) (s .clusters) i) i
 
-  pub bad-here : here ≡ false → badRow most s i ≡ true
+  pub bad-row : {b : Bool} → here ≡ b → badRow most s i ≡ (not b || against)
   unfolding badRow fits clashes
-  bad-here e = ap (λ (b : Bool). not b || against) e
-
-  pub bad-against : here ≡ true → badRow most s i ≡ against
-  unfolding badRow fits clashes
-  bad-against e = ap (λ (b : Bool). not b || against) e
+  bad-row e = ap (λ (b : Bool). not b || against) e
 
   -- where the rows before it are good, and it fits by itself, all are splits
   pub splits : ((j : ℕ) → j < i → badRow most s j ≡ false) → here ≡ true → (j : ℕ) → j ≤ i → Split (s .taxa) (getD (s .clusters) j 0)

@@ -1,5 +1,5 @@
 -- Laws of a list and its rows: a row pushed, the rows of the list made of them, and the rows read one after the other. Assumes nothing.
-use Prim.Native.Nat.{ℕ, suc, _+_, _-_, _<_, _≤_}
+use Prim.Native.Nat.{ℕ, suc, _-_, _<_}
 use native.Mathlib.Omega.{arith}
 use mathlib.Core.Path.{_≡_, refl, sym, _∙_, ap, ap₂}
 use mathlib.Core.List.{List, [], _∷_, _++_, map, append-assoc, map-append}
@@ -29,7 +29,8 @@ pushed-listOf k rows c w h = λ i. record {
   taxa = k;
   rows = sym (length-append rows (row c w ∷ [])) i;
   clusters = filled-set (λ r. r .cluster) rows (row c w) h i;
-  weights = filled-set (λ r. r .weight) rows (row c w) h i }
+  weights = filled-set (λ r. r .weight) rows (row c w) h i;
+}
 
 -- the rows of a list made of rows
 filled-take : (f : Row → ℕ) (rows : List Row) → take (length rows) (filled (map f rows)) ≡ map f rows

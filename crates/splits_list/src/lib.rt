@@ -1,10 +1,9 @@
 // Lists of splits: made empty, a row pushed, and the test that a given list is well-formed.
 // Document 01, "Growing and the allowance": the list has fixed room for 125 rows; well-formed.
 use statement::Splits;
-
 ghost use mathlib.Core.Path.{_≡_};
 ghost use mathlib.Core.List.{[]};
-ghost use Prim.Native.Nat.{ℕ, suc, _+_, _*_, _-_, _^_, _<_, _≤_};
+ghost use Prim.Native.Nat.{ℕ, _*_, _-_, _^_, _<_, _≤_};
 ghost use lib.Dec.{ltb};
 ghost use lib.ListN.{getD};
 ghost use Rattle.statement.specs.Cluster.{Split};
@@ -17,7 +16,12 @@ ghost use Rattle.splits_list.specs.Row.{fits, clashes};
 pub fn empty(k: usize) -> Splits
     ensures { λ r. ⌜ r ≡ listOf k [] ⌝ }
 {
-    Splits { taxa: k, rows: 0, clusters: [0; 125], weights: [0; 125] }
+    Splits {
+        taxa: k,
+        rows: 0,
+        clusters: [0; 125],
+        weights: [0; 125],
+    }
 }
 
 // A list with one row more.

@@ -1,20 +1,21 @@
--- The test of a list is what document 01 calls well-formed, and a list's columns. Assumes nothing.
-use Prim.Native.Nat.{ℕ, zero, suc, _+_, _*_, _-_, _^_, _≤_, _<_}
+-- A list passes the test exactly where it is well-formed, in document 01's words ("Growing and the allowance"): first the list's columns, then what
+-- each test says, of a conflict, of a row and of the whole. Assumes nothing.
+use Prim.Native.Nat.{ℕ, suc, _*_, _-_, _^_, _≤_, _<_}
 use native.Mathlib.Omega.{arith}
 use native.Mathlib.Decide.{decLt}
-use mathlib.Core.Path.{_≡_, refl, sym, _∙_, ap, ap₂, subst}
-use mathlib.Core.Logic.{_⊎_, inl, inr, _↔_, Iff·trans}
+use mathlib.Core.Path.{_≡_, refl, sym, _∙_, ap, subst}
+use mathlib.Core.Logic.{inl, inr, _↔_, Iff·trans}
 use mathlib.Core.Bool.{Bool, true, false, not, _&&_, _||_, and-eq-true-iff, true≢false, false≢true}
-use mathlib.Core.List.{List, [], _∷_, map}
+use mathlib.Core.List.{List, [], _∷_}
 use lib.Dec.{ltb, leb, eqb}
 use lib.ListN.{length, take, getD, length-map}
 use lib.Seq.{length-take-le, getD-take}
 use lib.Pow.{pow-pos}
 use borrow.Author.Tests.{ltb-true, lt-ltb, leb-true, leb-false, le-leb, lt-leb, eqb-true, eq-eqb, not-true, not-false}
 use Rattle.statement.specs.declared.Splits.{Splits}
-use Rattle.statement.specs.Cluster.{bit, In, Out, Split, Conflict}
+use Rattle.statement.specs.Cluster.{bit, Split, Conflict}
 use Rattle.statement.specs.Lowest.{some, none}
-use Rattle.statement.specs.Rows.{Row, Listed, clusters, weights, zip, rowsOf, Mem, Ascending, meets, conflicts, badRow, wellFormed, WellFormed}
+use Rattle.statement.specs.Rows.{Listed, clusters, weights, zip, rowsOf, Mem, Ascending, meets, conflicts, badRow, wellFormed, WellFormed}
 use Rattle.statement.proofs.Lowest.{some-at, some-of, none-of, none-at}
 use Rattle.statement.proofs.Listed.{asc-mem, asc-getD, mem-getD}
 
@@ -115,11 +116,12 @@ pub record Fit (most k c w : ℕ) : Type 0 where
 
 pub fit-is : (most k c w : ℕ) → (ltb 0 c && ltb c (2 ^ k) && eqb (bit c 0) 0 && ltb 0 w && leb w most ≡ true) ↔ Fit most k c w
 fit-is most k c w =
-    let all = both-is (both-is (both-is (both-is (less-is 0 c) (less-is c (2 ^ k))) (same-is (bit c 0) 0)) (less-is 0 w)) (most-is w most) in
-    (λ e. let ((((x, y), z), v), m) = all .0 e in record { split = record { some = x; below = y; free = z }; low = v; high = m },
-    λ h. all .1 ((((h .split .some, h .split .below), h .split .free), h .low), h .high))
+    let all = both-is (both-is (both-is (both-is (less-is 0 c) (less-is c (2 ^ k))) (same-is (bit c 0) 0)) (less-is 0 w)) (most-is w most) in (
+      λ e. let ((((x, y), z), v), m) = all .0 e in record { split = record { some = x; below = y; free = z }; low = v; high = m },
+      λ h. all .1 ((((h .split .some, h .split .below), h .split .free), h .low), h .high),
+    )
 
--- and beside a row before it, of the cluster b: above it, and without conflict
+-- BESIDE A ROW BEFORE IT, of the cluster b: above it, and without conflict
 pub record Beside (k b c : ℕ) : Type 0 where
   pub above : b < c
   pub clean : Conflict k b c → ⊥
@@ -141,17 +143,18 @@ row-is most s i =
     (none-is (λ j. leb c (getD (s .clusters) j 0) || conflicts (s .taxa) (getD (s .clusters) j 0) c) i (λ j. beside-is (s .taxa) (getD (s .clusters) j 0) c)) in
     (λ e. record { fit = all .0 e .0; beside = all .0 e .1 }, λ h. all .1 (h .fit, h .beside))
 
--- ascending, place by place
+-- ASCENDING, place by place
 asc-of : (low high : ℕ) (xs : List ℕ) → low ≤ high → ((i : ℕ) → i < length xs → (low ≤ getD xs i 0) × (getD xs i 0 < high))
     → ((i j : ℕ) → i < j → j < length xs → getD xs i 0 < getD xs j 0) → Ascending low high xs
 asc-of low high [] h f g = h
-asc-of low high (x ∷ xs) h f g =
-    (f 0 (omega arith) .0,
-    asc-of (suc x) high xs (f 0 (omega arith) .1) (λ i l. (g 0 (suc i) (omega arith) (omega arith), f (suc i) (omega arith) .1))
-    (λ i j b l. g (suc i) (suc j) (omega arith) (omega arith)))
+asc-of low high (x ∷ xs) h f g = (
+  f 0 (omega arith) .0,
+  asc-of (suc x) high xs (f 0 (omega arith) .1) (λ i l. (g 0 (suc i) (omega arith) (omega arith), f (suc i) (omega arith) .1))
+      (λ i j b l. g (suc i) (suc j) (omega arith) (omega arith)),
+)
 
 -- MEMBERS BY THEIR PLACES, of a front xs of ys
-module _ (m : ℕ) (xs ys : List ℕ) (front : Front m xs ys) where
+module _ {m : ℕ} {xs ys : List ℕ} (front : Front m xs ys) where
   member-at : (c : ℕ) → Mem c xs → (i : ℕ) × (i < m) × (c ≡ getD ys i 0)
   member-at c h =
       let (i, l, e) = mem-at xs h in
@@ -176,7 +179,7 @@ module _ (m : ℕ) (xs ys : List ℕ) (front : Front m xs ys) where
   ascending-at low high h i j p l =
       omega (arith, asc-getD low high xs h i j p (omega (arith, front .long)), front .at i (omega arith), front .at j l)
 
--- of two rows, one is before the other or they are one
+-- two rows without conflict: one is before the other, or they are one
 conflict-turned : (k a b : ℕ) → Conflict k a b → Conflict k b a
 conflict-turned k a b h =
     let (i, li, ai, bi) = h .ii in
@@ -196,34 +199,34 @@ clean-pairs k f i j before after h = go (decLt i j) (decLt j i)
 -- THE WHOLE: the rows are good, each by itself and beside those before it, exactly where the list is as document 01 says
 module _ (most n : ℕ) (s : Splits) (room : Roomy s) where
   listed-at : (c : ℕ) → Listed c (rowsOf s) → (i : ℕ) × (i < s .rows) × (c ≡ getD (s .clusters) i 0)
-  listed-at = member-at (s .rows) (clusters (rowsOf s)) (s .clusters) (clusters-front s room)
+  listed-at = member-at (clusters-front s room)
 
   listed-of : (i : ℕ) → i < s .rows → Listed (getD (s .clusters) i 0) (rowsOf s)
-  listed-of = member-of (s .rows) (clusters (rowsOf s)) (s .clusters) (clusters-front s room)
+  listed-of = member-of (clusters-front s room)
 
   rows-good : ((i : ℕ) → i < s .rows → GoodRow most s i) → 1 ≤ s .taxa → s .taxa ≤ n → s .rows ≤ 2 * s .taxa - 3 → WellFormed most n s
   rows-good good one taxa few = record {
     one = one;
     taxa = taxa;
     few = few;
-    up = ascending-of (s .rows) (clusters (rowsOf s)) (s .clusters) (clusters-front s room) 1 (2 ^ s .taxa) (pow-pos (s .taxa))
-    (λ i l. (good i l .fit .split .some, good i l .fit .split .below)) (λ i j b l. good j l .beside i b .above);
+    up = ascending-of (clusters-front s room) 1 (2 ^ s .taxa) (pow-pos (s .taxa))
+        (λ i l. (good i l .fit .split .some, good i l .fit .split .below)) (λ i j b l. good j l .beside i b .above);
     free = λ c m. let (i, l, e) = listed-at c m in ap (λ (x : ℕ). bit x 0) e ∙ good i l .fit .split .free;
-    weigh = λ w m. let (i, l, e) = member-at (s .rows) (weights (rowsOf s)) (s .weights) (weights-front s room) w m in
-    (omega (arith, e, good i l .fit .low), omega (arith, e, good i l .fit .high));
+    weigh = λ w m. let (i, l, e) = member-at (weights-front s room) w m in
+        (omega (arith, e, good i l .fit .low), omega (arith, e, good i l .fit .high));
     clean = λ a b ma mb h. let (i, li, ea) = listed-at a ma in let (j, lj, eb) = listed-at b mb in
-    clean-pairs (s .taxa) (λ x. getD (s .clusters) x 0) i j (λ l. good j lj .beside i l .clean) (λ l. good i li .beside j l .clean)
-    (subst (λ (x : ℕ). Conflict (s .taxa) x (getD (s .clusters) j 0)) ea (subst (λ (x : ℕ). Conflict (s .taxa) a x) eb h));
+        clean-pairs (s .taxa) (λ x. getD (s .clusters) x 0) i j (λ l. good j lj .beside i l .clean) (λ l. good i li .beside j l .clean)
+        (subst (λ (x : ℕ). Conflict (s .taxa) x (getD (s .clusters) j 0)) ea (subst (λ (x : ℕ). Conflict (s .taxa) a x) eb h));
   }
 
   good-rows : WellFormed most n s → (i : ℕ) → i < s .rows → GoodRow most s i
   good-rows w i l =
       let (low, high) = asc-mem 1 (2 ^ s .taxa) (clusters (rowsOf s)) (w .up) (getD (s .clusters) i 0) (listed-of i l) in
-      let (light, heavy) = w .weigh (getD (s .weights) i 0) (member-of (s .rows) (weights (rowsOf s)) (s .weights) (weights-front s room) i l) in
+      let (light, heavy) = w .weigh (getD (s .weights) i 0) (member-of (weights-front s room) i l) in
       record {
         fit = record { split = record { some = low; below = high; free = w .free (getD (s .clusters) i 0) (listed-of i l) }; low = light; high = heavy };
         beside = λ j b. record {
-          above = ascending-at (s .rows) (clusters (rowsOf s)) (s .clusters) (clusters-front s room) 1 (2 ^ s .taxa) (w .up) j i b l;
+          above = ascending-at (clusters-front s room) 1 (2 ^ s .taxa) (w .up) j i b l;
           clean = w .clean (getD (s .clusters) j 0) (getD (s .clusters) i 0) (listed-of j (omega arith)) (listed-of i l);
         };
       }
@@ -234,6 +237,7 @@ well-formed-is most n s hc hw hn =
     let good : (none (badRow most s) (s .rows) ≡ true) ↔ ((i : ℕ) → i < s .rows → GoodRow most s i) =
     Iff·trans (not-true (some (badRow most s) (s .rows)), ap not) (none-is (badRow most s) (s .rows) (row-is most s)) in
     let all = both-is (both-is (both-is (most-is 1 (s .taxa)) (most-is (s .taxa) n)) (most-is (s .rows) (2 * s .taxa - 3))) good in
-    let room : s .taxa ≤ n → s .rows ≤ 2 * s .taxa - 3 → Roomy s = λ t f. record { clusters = hc; weights = hw; rows = omega arith } in
-    (λ e. let (((o, t), f), g) = all .0 e in rows-good most n s (room t f) g o t f,
-    λ w. all .1 (((w .one, w .taxa), w .few), good-rows most n s (room (w .taxa) (w .few)) w))
+    let room : s .taxa ≤ n → s .rows ≤ 2 * s .taxa - 3 → Roomy s = λ t f. record { clusters = hc; weights = hw; rows = omega arith } in (
+      λ e. let (((o, t), f), g) = all .0 e in rows-good most n s (room t f) g o t f,
+      λ w. all .1 (((w .one, w .taxa), w .few), good-rows most n s (room (w .taxa) (w .few)) w),
+    )

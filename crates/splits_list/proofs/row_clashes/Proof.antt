@@ -71,11 +71,12 @@ loop-less c = search needs
 loop-again : tie.Need-loop-again Inv-loop μ-loop
 loop-again c =
     let l = c .before .before .before .before .before in
-    let a = l .before .before .args in
-    (omega arith,
-    below-more _ _ (l .loop .inv .1)
-    (beside (a .k) (a .clusters .now) (a .i) (l .loop .j)
-    (record { above = omega arith; clean = λ h. true≢false (sym (conflicts-is (a .k) _ _ .1 h) ∙ sym (told (c .before)) ∙ c .if2 .left) })))
+    let a = l .before .before .args in (
+      omega arith,
+      below-more _ _ (l .loop .inv .1)
+          (beside (a .k) (a .clusters .now) (a .i) (l .loop .j)
+          (record { above = omega arith; clean = λ h. true≢false (sym (conflicts-is (a .k) _ _ .1 h) ∙ sym (told (c .before)) ∙ c .if2 .left) })),
+    )
 
 returns-3 : tie.Need-returns-3 Inv-loop μ-loop
 returns-3 c =

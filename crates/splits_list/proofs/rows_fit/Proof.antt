@@ -8,7 +8,7 @@ use mathlib.Core.Path.{_≡_, sym, _∙_, ap}
 use mathlib.Core.Bool.{true, false, not}
 use Rattle.statement.specs.Rows.{badRow}
 use Rattle.statement.proofs.Lowest.{some-at, none-at}
-use Rattle.splits_list.proofs.Checks.{here, bad-here, bad-against, splits}
+use Rattle.splits_list.proofs.Checks.{here, bad-row, splits}
 use Rattle.splits_list.proofs.rows_fit.Statement.{statement}
 use Rattle.splits_list.proofs.rows_fit.Tie as tie
 
@@ -41,7 +41,7 @@ returns c =
     let l = c .before .before .before .before in
     let a = l .before .before .args in
     sym (ap not (some-at (badRow (a .most) (a .t2)) (a .t2 .rows) (l .loop .i) (omega arith)
-    (bad-here (a .most) (a .t2) (l .loop .i) (sym (c .before .row-fits .ensures) ∙ not-true _ (c .if1 .taken)))))
+    (bad-row (a .most) (a .t2) (l .loop .i) (sym (c .before .row-fits .ensures) ∙ not-true _ (c .if1 .taken)))))
 
 -- past the first test
 fit-here : (c : tie.Else1 Inv-loop μ-loop)
@@ -55,19 +55,19 @@ row-clashes-requires c κs =
     ((omega arith, s .pre .0), splits (s .args .most) (s .args .t2) (l .loop .i) (l .loop .inv .1) (fit-here (c .before)))
 
 -- and the second
-against-here : (c : tie.After-row-clashes Inv-loop μ-loop)
+tested-here : (c : tie.After-row-clashes Inv-loop μ-loop)
     → let l = c .before .before .before .before .before .before in
     badRow (l .before .before .args .most) (l .before .before .args .t2) (l .loop .i) ≡ c .row-clashes .result
-against-here c =
+tested-here c =
     let l = c .before .before .before .before .before .before in
     let a = l .before .before .args in
-    bad-against (a .most) (a .t2) (l .loop .i) (fit-here (c .before .before)) ∙ sym (c .row-clashes .ensures)
+    bad-row (a .most) (a .t2) (l .loop .i) (fit-here (c .before .before)) ∙ sym (c .row-clashes .ensures)
 
 returns-2 : tie.Need-returns-2 Inv-loop μ-loop
 returns-2 c =
     let l = c .before .before .before .before .before .before .before in
     let a = l .before .before .args in
-    sym (ap not (some-at (badRow (a .most) (a .t2)) (a .t2 .rows) (l .loop .i) (omega arith) (against-here (c .before) ∙ c .if2 .taken)))
+    sym (ap not (some-at (badRow (a .most) (a .t2)) (a .t2 .rows) (l .loop .i) (omega arith) (tested-here (c .before) ∙ c .if2 .taken)))
 
 add-i : tie.Need-add-i Inv-loop μ-loop
 add-i c = search needs
@@ -78,7 +78,7 @@ loop-less c = search needs
 loop-again : tie.Need-loop-again Inv-loop μ-loop
 loop-again c =
     let l = c .before .before .before .before .before .before .before in
-    (omega arith, below-more _ _ (l .loop .inv .1) (against-here (c .before) ∙ c .if2 .left))
+    (omega arith, below-more _ _ (l .loop .inv .1) (tested-here (c .before) ∙ c .if2 .left))
 
 returns-3 : tie.Need-returns-3 Inv-loop μ-loop
 returns-3 c =

@@ -1,9 +1,7 @@
 -- One way out for each of the four demands.
 use borrow.Author.Needs.{needs}
 use borrow.Author.Tests.{le-leb, lt-leb}
-use native.Mathlib.Omega.{arith}
-use mathlib.Core.Path.{_≡_, refl}
-use Prim.Native.Nat.{_*_, _-_}
+use mathlib.Core.Path.{refl}
 use Rattle.statement.specs.Rows.{wellFormed}
 use Rattle.splits_list.proofs.well_formed.Statement.{statement}
 use Rattle.splits_list.proofs.well_formed.Tie as tie
