@@ -28,3 +28,4 @@ pub mod GrowthRule
 pub mod Groups
 pub mod Scores
 pub mod Walks
+pub mod WellFormed

@@ -1,0 +1,64 @@
+-- Laws of a list and its rows: a row pushed, the rows of the list made of them, and the rows read one after the other. Assumes nothing.
+use Prim.Native.Nat.{ℕ, suc, _-_, _<_}
+use native.Mathlib.Omega.{arith}
+use mathlib.Core.Path.{_≡_, refl, sym, _∙_, ap, ap₂}
+use mathlib.Core.List.{List, [], _∷_, _++_, map, append-assoc, map-append}
+use lib.ListN.{length, getD, drop, take, set, replicate, length-append, length-map, drop-of-length-le, List·getD-map}
+use lib.Seq.{set-at, take-at, drop-cons}
+use Rattle.statement.specs.declared.Splits.{Splits}
+use Rattle.statement.specs.Rows.{Row, row, clusters, weights, zip, rowsOf, filled, listOf}
+pub use Rattle.statement.proofs.WellFormed.{Roomy, rows-length}
+use Rattle.statement.proofs.WellFormed.{clusters-front, weights-front}
+use Rattle.splits_list.specs.Pushed.{pushed}
+
+-- a store at the first spare place is one row more
+filled-set : (f : Row → ℕ) (rows : List Row) (r : Row) → length rows < 125 → set (filled (map f rows)) (length rows) (f r) ≡ filled (map f (rows ++ (r ∷ [])))
+unfolding filled
+filled-set f rows r h =
+    let xs = map f rows in
+    let spare = 125 - length (xs ++ (f r ∷ [])) in
+    let more : 125 - length xs ≡ suc spare = omega (arith, length-append xs (f r ∷ []), length-map rows f) in
+    ap (λ (m : ℕ). set (xs ++ replicate m 0) (length rows) (f r)) more
+    ∙ set-at xs 0 (replicate spare 0) (f r) (length rows) (length-map rows f)
+    ∙ sym (append-assoc xs (f r ∷ []) (replicate spare 0))
+    ∙ ap (λ (ys : List ℕ). ys ++ replicate (125 - length ys) 0) (sym (map-append f rows (r ∷ [])))
+
+pub pushed-listOf : (k : ℕ) (rows : List Row) (c w : ℕ) → length rows < 125 → pushed (listOf k rows) c w ≡ listOf k (rows ++ (row c w ∷ []))
+unfolding listOf
+pushed-listOf k rows c w h = λ i. record {
+  taxa = k;
+  rows = sym (length-append rows (row c w ∷ [])) i;
+  clusters = filled-set (λ r. r .cluster) rows (row c w) h i;
+  weights = filled-set (λ r. r .weight) rows (row c w) h i;
+}
+
+-- the rows of a list made of rows
+filled-take : (f : Row → ℕ) (rows : List Row) → take (length rows) (filled (map f rows)) ≡ map f rows
+unfolding filled
+filled-take f rows = take-at (map f rows) (replicate (125 - length (map f rows)) 0) (length rows) (length-map rows f)
+
+zip-rows : (rows : List Row) → zip (clusters rows) (weights rows) ≡ rows
+zip-rows [] = refl
+zip-rows (r ∷ rows) = ap (λ (rs : List Row). r ∷ rs) (zip-rows rows)
+
+pub rowsOf-listOf : (k : ℕ) (rows : List Row) → rowsOf (listOf k rows) ≡ rows
+unfolding rowsOf listOf
+rowsOf-listOf k rows = ap₂ zip (filled-take (λ r. r .cluster) rows) (filled-take (λ r. r .weight) rows) ∙ zip-rows rows
+
+-- ROWS READ one after the other, of a list in its room
+module _ (s : Splits) (room : Roomy s) (i : ℕ) (l : i < s .rows) where
+  pub cluster-at : getD (clusters (rowsOf s)) i 0 ≡ getD (s .clusters) i 0
+  cluster-at = clusters-front s room .at i l
+
+  pub weight-at : getD (weights (rowsOf s)) i 0 ≡ getD (s .weights) i 0
+  weight-at = weights-front s room .at i l
+
+  pub rows-at : drop i (rowsOf s) ≡ row (getD (s .clusters) i 0) (getD (s .weights) i 0) ∷ drop (suc i) (rowsOf s)
+  rows-at =
+      drop-cons (rowsOf s) i (row 0 0) (omega (arith, rows-length s room))
+      ∙ ap₂ (λ (c w : ℕ). row c w ∷ drop (suc i) (rowsOf s))
+      (sym (List·getD-map (λ r. r .cluster) (rowsOf s) i (row 0 0)) ∙ cluster-at)
+      (sym (List·getD-map (λ r. r .weight) (rowsOf s) i (row 0 0)) ∙ weight-at)
+
+pub rows-end : (s : Splits) → Roomy s → drop (s .rows) (rowsOf s) ≡ []
+rows-end s room = drop-of-length-le (rowsOf s) {i = s .rows} (omega (arith, rows-length s room))
