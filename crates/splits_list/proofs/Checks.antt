@@ -16,10 +16,10 @@ use borrow.Author.Tests.{lt-ltb, le-ltb, eq-eqb, ne-eqb}
 use Rattle.statement.specs.declared.Splits.{Splits}
 use Rattle.statement.specs.Cluster.{Split}
 use Rattle.statement.specs.Lowest.{some}
-use Rattle.statement.specs.Rows.{conflicts, badRow}
+use Rattle.statement.specs.Rows.{conflicts, fits, clashes, badRow}
 use Rattle.statement.proofs.Mask.{conflict-mask}
-use Rattle.statement.proofs.WellFormed.{fails-is, conflicts-is, Fit, fit-is, Beside, beside-is, row-is}
-use Rattle.splits_list.specs.Row.{fits, clashes}
+use Rattle.statement.proofs.Tests.{fails-is}
+use Rattle.statement.proofs.WellFormed.{conflicts-is, Fit, fit-is, Beside, beside-is, row-is}
 
 -- a cluster is within the first k taxa where a shift by k leaves nothing of it
 pub shifted : (k c : ℕ) → eqb (c / 2 ^ k) 0 ≡ ltb c (2 ^ k)

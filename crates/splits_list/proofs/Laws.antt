@@ -1,12 +1,13 @@
 -- Laws of a list and its rows: a row pushed, the rows of the list made of them, and the rows read one after the other. Assumes nothing.
 use Prim.Native.Nat.{ℕ, suc, _-_, _<_}
 use native.Mathlib.Omega.{arith}
-use mathlib.Core.Path.{_≡_, refl, sym, _∙_, ap, ap₂}
+use mathlib.Core.Path.{_≡_, sym, _∙_, ap, ap₂}
 use mathlib.Core.List.{List, [], _∷_, _++_, map, append-assoc, map-append}
-use lib.ListN.{length, getD, drop, take, set, replicate, length-append, length-map, drop-of-length-le, List·getD-map}
-use lib.Seq.{set-at, take-at, drop-cons}
+use lib.ListN.{length, getD, drop, set, replicate, length-append, length-map, drop-of-length-le, List·getD-map}
+use lib.Seq.{set-at, drop-cons}
 use Rattle.statement.specs.declared.Splits.{Splits}
-use Rattle.statement.specs.Rows.{Row, row, clusters, weights, zip, rowsOf, filled, listOf}
+use Rattle.statement.specs.Rows.{Row, row, clusters, weights, rowsOf, filled, listOf}
+pub use Rattle.statement.proofs.Lists.{rows-of-list}
 pub use Rattle.statement.proofs.WellFormed.{Roomy, rows-length}
 use Rattle.statement.proofs.WellFormed.{clusters-front, weights-front}
 use Rattle.splits_list.specs.Pushed.{pushed}
@@ -31,19 +32,6 @@ pushed-listOf k rows c w h = λ i. record {
   clusters = filled-set (λ r. r .cluster) rows (row c w) h i;
   weights = filled-set (λ r. r .weight) rows (row c w) h i;
 }
-
--- the rows of a list made of rows
-filled-take : (f : Row → ℕ) (rows : List Row) → take (length rows) (filled (map f rows)) ≡ map f rows
-unfolding filled
-filled-take f rows = take-at (map f rows) (replicate (125 - length (map f rows)) 0) (length rows) (length-map rows f)
-
-zip-rows : (rows : List Row) → zip (clusters rows) (weights rows) ≡ rows
-zip-rows [] = refl
-zip-rows (r ∷ rows) = ap (λ (rs : List Row). r ∷ rs) (zip-rows rows)
-
-pub rowsOf-listOf : (k : ℕ) (rows : List Row) → rowsOf (listOf k rows) ≡ rows
-unfolding rowsOf listOf
-rowsOf-listOf k rows = ap₂ zip (filled-take (λ r. r .cluster) rows) (filled-take (λ r. r .weight) rows) ∙ zip-rows rows
 
 -- ROWS READ one after the other, of a list in its room
 module _ (s : Splits) (room : Roomy s) (i : ℕ) (l : i < s .rows) where

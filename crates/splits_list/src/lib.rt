@@ -8,9 +8,8 @@ ghost use lib.Dec.{ltb};
 ghost use lib.ListN.{getD};
 ghost use Rattle.statement.specs.Cluster.{Split};
 ghost use Rattle.statement.specs.Lowest.{some, none};
-ghost use Rattle.statement.specs.Rows.{listOf, conflicts, badRow, wellFormed};
+ghost use Rattle.statement.specs.Rows.{listOf, conflicts, fits, clashes, badRow, wellFormed};
 ghost use Rattle.splits_list.specs.Pushed.{pushed};
-ghost use Rattle.splits_list.specs.Row.{fits, clashes};
 
 // The empty list, over k taxa: zeros throughout.
 pub fn empty(k: usize) -> Splits

@@ -4,47 +4,29 @@ use native.Mathlib.Omega.{arith}
 use native.Mathlib.Decide.{decLt}
 use native.Mathlib.Nat.{mod-lt, div-add-mod', div-lt-iff-lt-mul}
 use mathlib.Core.Path.{_≡_, refl, sym, _∙_, ap, ap₂}
-use mathlib.Core.Logic.{_↔_, _⊎_, inl, inr}
+use mathlib.Core.Logic.{_↔_, Iff·trans}
 use mathlib.Core.Bool.{Bool, true, false, not, _&&_, _||_}
 use mathlib.Core.List.{List}
 use lib.Arith.{digits-lt, digits-div, digits-mod}
 use lib.Dec.{ltb, eqb}
 use lib.ListN.{length, getD}
-use borrow.Author.Tests.{ltb-true, ltb-false, lt-ltb, le-ltb, eqb-true, eqb-false, eq-eqb, ne-eqb, not-true, not-false}
+use borrow.Author.Tests.{ltb-false, lt-ltb, le-ltb, eqb-true, eq-eqb}
 use Rattle.statement.specs.declared.Outcome.the-variants.{Done}
 use Rattle.statement.specs.Matrix.{distance, distanceLimit, AcceptedMatrix}
 use Rattle.statement.specs.Table.{choose, AcceptedTable}
 use Rattle.statement.specs.Refusals.{outcomeOf, Passed, AllPassed, single, taxaOff, lengthOff, diagonalOff, distanceOff, pairOff, matrixChecks, tableChecks}
+use Rattle.statement.proofs.Tests.{same-is, not-less-is, neither-is, not-is, unless-is}
 use Rattle.statement.proofs.Refused.{accepted-exactly}
-
--- tests joined by "and" and "or"
-pub or-false : (a b : Bool) → (a || b) ≡ false ↔ ((a ≡ false) × (b ≡ false))
-or-false true b = ((λ e. (e, absurd (let z : _≡_ {A = ℕ} 0 1 = cc in omega arith))), (λ p. p .0))
-or-false false b = ((λ e. (refl, e)), (λ p. p .1))
-
-pub and-false : (a b : Bool) → (a && b) ≡ false ↔ (a ≡ true → b ≡ false)
-and-false true b = ((λ e q. e), (λ f. f refl))
-and-false false b = ((λ e q. absurd (let z : _≡_ {A = ℕ} 0 1 = cc in omega arith)), (λ f. refl))
-
-pub not-is : (b : Bool) → (not b ≡ false) ↔ (b ≡ true)
-not-is true = ((λ e. refl), (λ e. refl))
-not-is false = ((λ e. sym e), (λ e. sym e))
 
 -- a line whose place is always 0 is passed where its test is false
 pub single-passed : (number : ℕ) (b : Bool) → Passed (single number b) ↔ (b ≡ false)
 single-passed number b = ((λ p. p 0 (omega arith)), (λ e i l. e))
 
 pub taxa-passed : (n : ℕ) → Passed (taxaOff n) ↔ ((2 ≤ n) × (n ≤ 64))
-taxa-passed n = (
-  (λ p. let q = or-false (ltb n 2) (ltb 64 n) .0 (single-passed 1 _ .0 p) in (ltb-false n 2 (q .0), ltb-false 64 n (q .1))),
-  (λ p. single-passed 1 _ .1 (or-false (ltb n 2) (ltb 64 n) .1 (le-ltb n 2 (p .0), le-ltb 64 n (p .1)))),
-)
+taxa-passed n = Iff·trans (single-passed 1 (ltb n 2 || ltb 64 n)) (neither-is (not-less-is n 2) (not-less-is 64 n))
 
 pub length-passed : (a b : ℕ) → Passed (lengthOff (eqb a b)) ↔ (a ≡ b)
-length-passed a b = (
-  (λ p. eqb-true a b (not-is (eqb a b) .0 (single-passed 2 _ .0 p))),
-  (λ e. single-passed 2 _ .1 (not-is (eqb a b) .1 (eq-eqb a b e))),
-)
+length-passed a b = Iff·trans (single-passed 2 (not (eqb a b))) (not-is (same-is a b))
 
 -- an entry of a matrix, by its row and column
 module _ (n : ℕ) (pn : 0 < n) (entries : List ℕ) where
@@ -57,15 +39,16 @@ module _ (n : ℕ) (pn : 0 < n) (entries : List ℕ) where
   row-below : (e : ℕ) → e < n * n → e / n < n
   row-below e l = div-lt-iff-lt-mul pn .1 l
 
+  diagonal-is : (e : ℕ) → (eqb (e / n) (e % n) && not (eqb (getD entries e 0) 0) ≡ false) ↔ (eqb (e / n) (e % n) ≡ true → getD entries e 0 ≡ 0)
+  diagonal-is e = unless-is (eqb (e / n) (e % n)) (not-is (same-is (getD entries e 0) 0))
+
   diagonal-passed : Passed (diagonalOff n entries) ↔ ((i : ℕ) → i < n → distance n entries i i ≡ 0)
   diagonal-passed = (
     (λ p i l.
         let e = i * n + i in
-        let same : eqb (e / n) (e % n) ≡ true = eq-eqb (e / n) (e % n) (digits-div i l ∙ sym (digits-mod i l)) in
-        eqb-true (getD entries e 0) 0 (not-is _ .0 (and-false (eqb (e / n) (e % n)) _ .0 (p e (entry-within i i l l)) same))),
-    (λ h e l. and-false (eqb (e / n) (e % n)) _ .1 (λ same.
-        not-is _ .1 (eq-eqb (getD entries e 0) 0
-        (entry-is e ∙ ap (λ (i : ℕ). distance n entries i (e % n)) (eqb-true (e / n) (e % n) same) ∙ h (e % n) (mod-lt e pn))))),
+        diagonal-is e .0 (p e (entry-within i i l l)) (eq-eqb (e / n) (e % n) (digits-div i l ∙ sym (digits-mod i l)))),
+    (λ h e l. diagonal-is e .1 (λ same.
+        entry-is e ∙ ap (λ (i : ℕ). distance n entries i (e % n)) (eqb-true (e / n) (e % n) same) ∙ h (e % n) (mod-lt e pn))),
   )
 
   distance-passed : Passed (distanceOff n entries) ↔ ((i j : ℕ) → i < n → j < n → distance n entries i j ≤ distanceLimit)
@@ -74,25 +57,26 @@ module _ (n : ℕ) (pn : 0 < n) (entries : List ℕ) where
     (λ h e l. le-ltb distanceLimit (getD entries e 0) (omega (arith, entry-is e, h (e / n) (e % n) (row-below e l) (mod-lt e pn)))),
   )
 
+  pair-is : (e : ℕ) → (ltb (e / n) (e % n) && not (eqb (getD entries e 0) (distance n entries (e % n) (e / n))) ≡ false)
+      ↔ (ltb (e / n) (e % n) ≡ true → getD entries e 0 ≡ distance n entries (e % n) (e / n))
+  pair-is e = unless-is (ltb (e / n) (e % n)) (not-is (same-is (getD entries e 0) (distance n entries (e % n) (e / n))))
+
   pair-passed : Passed (pairOff n entries) ↔ ((i j : ℕ) → i < n → j < n → distance n entries i j ≡ distance n entries j i)
-  pair-passed = ((λ p i j li lj. there p i j li lj (decLt i j) (decLt j i)), back)
+  pair-passed = (
+    (λ p i j li lj. there p i j li lj (decLt i j) (decLt j i)),
+    (λ h e l. pair-is e .1 (λ up. entry-is e ∙ h (e / n) (e % n) (row-below e l) (mod-lt e pn))),
+  )
     where
       upper : Passed (pairOff n entries) → (i j : ℕ) → i < j → j < n → distance n entries i j ≡ distance n entries j i
       upper p i j l lj =
           let e = i * n + j in
           let up : ltb (e / n) (e % n) ≡ true = rw (digits-div i lj, digits-mod i lj) (lt-ltb i j l) in
-          eqb-true _ _ (not-is _ .0 (and-false (ltb (e / n) (e % n)) _ .0 (p e (entry-within i j (omega arith) lj)) up))
-          ∙ ap₂ (λ (a b : ℕ). distance n entries a b) (digits-mod i lj) (digits-div i lj)
+          pair-is e .0 (p e (entry-within i j (omega arith) lj)) up ∙ ap₂ (λ (a b : ℕ). distance n entries a b) (digits-mod i lj) (digits-div i lj)
 
       there : Passed (pairOff n entries) → (i j : ℕ) → i < n → j < n → Dec (i < j) → Dec (j < i) → distance n entries i j ≡ distance n entries j i
       there p i j li lj (yes l) m = upper p i j l lj
       there p i j li lj (no l) (yes m) = sym (upper p j i m li)
       there p i j li lj (no l) (no m) = let e : i ≡ j = omega arith in ap₂ (λ (a b : ℕ). distance n entries a b) e (sym e)
-
-      back : ((i j : ℕ) → i < n → j < n → distance n entries i j ≡ distance n entries j i) → Passed (pairOff n entries)
-      back h e l =
-          and-false (ltb (e / n) (e % n)) _ .1 (λ up.
-          not-is _ .1 (eq-eqb (getD entries e 0) (distance n entries (e % n) (e / n)) (entry-is e ∙ h (e / n) (e % n) (row-below e l) (mod-lt e pn))))
 
 -- ACCEPTED MATRICES
 pub matrix-accepted : (n : ℕ) (entries : List ℕ) → (outcomeOf (matrixChecks n entries) ≡ Done) ↔ AcceptedMatrix n entries

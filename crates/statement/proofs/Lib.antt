@@ -15,6 +15,7 @@ pub mod Listed
 pub mod Full
 pub mod Reached
 pub mod Lowest
+pub mod Tests
 pub mod Trial
 pub mod Refused
 pub mod Pairing

@@ -5,18 +5,19 @@ use native.Mathlib.Omega.{arith}
 use native.Mathlib.Decide.{decLt}
 use mathlib.Core.Path.{_≡_, refl, sym, _∙_, ap, subst}
 use mathlib.Core.Logic.{inl, inr, _↔_, Iff·trans}
-use mathlib.Core.Bool.{Bool, true, false, not, _&&_, _||_, and-eq-true-iff, true≢false, false≢true}
+use mathlib.Core.Bool.{Bool, true, false, not, _&&_, _||_}
 use mathlib.Core.List.{List, [], _∷_}
 use lib.Dec.{ltb, leb, eqb}
 use lib.ListN.{length, take, getD, length-map}
 use lib.Seq.{length-take-le, getD-take}
 use lib.Pow.{pow-pos}
-use borrow.Author.Tests.{ltb-true, lt-ltb, leb-true, leb-false, le-leb, lt-leb, eqb-true, eq-eqb, not-true, not-false}
+use borrow.Author.Tests.{leb-false, lt-leb, not-true}
 use Rattle.statement.specs.declared.Splits.{Splits}
 use Rattle.statement.specs.Cluster.{bit, Split, Conflict}
 use Rattle.statement.specs.Lowest.{some, none}
-use Rattle.statement.specs.Rows.{Listed, clusters, weights, zip, rowsOf, Mem, Ascending, meets, conflicts, badRow, wellFormed, WellFormed}
-use Rattle.statement.proofs.Lowest.{some-at, some-of, none-of, none-at}
+use Rattle.statement.specs.Rows.{Listed, clusters, weights, zip, rowsOf, Mem, Ascending, meets, conflicts, fits, clashes, badRow, wellFormed, WellFormed}
+use Rattle.statement.proofs.Lowest.{some-at, some-of}
+use Rattle.statement.proofs.Tests.{less-is, most-is, same-is, both-is, neither-is, not-is, fails-is, none-is}
 use Rattle.statement.proofs.Listed.{asc-mem, asc-getD, mem-getD}
 
 -- A LIST'S COLUMNS. xs is the front of ys, m places long
@@ -60,33 +61,6 @@ module _ (s : Splits) (room : Roomy s) where
 
   pub rows-length : length (rowsOf s) ≡ s .rows
   rows-length = sym (length-map (rowsOf s) (λ r. r .cluster)) ∙ clusters-front .long
-
--- TESTS, and what they say
-less-is : (a b : ℕ) → (ltb a b ≡ true) ↔ (a < b)
-less-is a b = (ltb-true a b, lt-ltb a b)
-
-most-is : (a b : ℕ) → (leb a b ≡ true) ↔ (a ≤ b)
-most-is a b = (leb-true a b, le-leb a b)
-
-same-is : (a b : ℕ) → (eqb a b ≡ true) ↔ (a ≡ b)
-same-is a b = (eqb-true a b, eq-eqb a b)
-
-both-is : {A B : Type 0} {a b : Bool} → (a ≡ true) ↔ A → (b ≡ true) ↔ B → (a && b ≡ true) ↔ (A × B)
-both-is {A} {B} {a} {b} f g = (λ e. let (x, y) = and-eq-true-iff a b .0 e in (f .0 x, g .0 y), λ h. and-eq-true-iff a b .1 (f .1 (h .0), g .1 (h .1)))
-
-neither-is : {A B : Type 0} {a b : Bool} → (a ≡ false) ↔ A → (b ≡ false) ↔ B → (a || b ≡ false) ↔ (A × B)
-neither-is {a = true} f g = (λ e. absurd (true≢false e), λ h. absurd (true≢false (f .1 (h .0))))
-neither-is {a = false} f g = (λ e. (f .0 refl, g .0 e), λ h. g .1 (h .1))
-
-not-is : {A : Type 0} {a : Bool} → (a ≡ true) ↔ A → (not a ≡ false) ↔ A
-not-is {A} {a} f = (λ e. f .0 (not-false a e), λ h. ap not (f .1 h))
-
-pub fails-is : {A : Type 0} {a : Bool} → (a ≡ true) ↔ A → (a ≡ false) ↔ (A → ⊥)
-fails-is {a = true} f = (λ e. absurd (true≢false e), λ h. absurd (h (f .0 refl)))
-fails-is {a = false} f = (λ e h. false≢true (f .1 h), λ h. refl)
-
-none-is : {P : ℕ → Type 0} (p : ℕ → Bool) (m : ℕ) → ((i : ℕ) → (p i ≡ false) ↔ P i) → (some p m ≡ false) ↔ ((i : ℕ) → i < m → P i)
-none-is p m f = (λ e i l. f i .0 (none-of p m e i l), λ h. none-at p m (λ i l. f i .1 (h i l)))
 
 -- CONFLICT, as a test
 meets-is : (k a p b q : ℕ) → (meets k a p b q ≡ true) ↔ ((i : ℕ) × (i < k) × (bit a i ≡ p) × (bit b i ≡ q))
@@ -136,7 +110,7 @@ pub record GoodRow (most : ℕ) (s : Splits) (i : ℕ) : Type 0 where
   pub beside : (j : ℕ) → j < i → Beside (s .taxa) (getD (s .clusters) j 0) (getD (s .clusters) i 0)
 
 pub row-is : (most : ℕ) (s : Splits) (i : ℕ) → (badRow most s i ≡ false) ↔ GoodRow most s i
-unfolding badRow
+unfolding badRow fits clashes
 row-is most s i =
     let c = getD (s .clusters) i 0 in
     let all = neither-is (not-is (fit-is most (s .taxa) c (getD (s .weights) i 0)))

@@ -93,13 +93,16 @@ meets k a p b q = some (λ i. eqb (bit a i) p && eqb (bit b i) q) k
 unfoldable pub conflicts : ℕ → ℕ → ℕ → Bool
 conflicts k a b = meets k a 1 b 1 && meets k a 1 b 0 && meets k a 0 b 1 && meets k a 0 b 0
 
--- row i, by itself and against the rows before it
+-- the row c, w by itself, in a list over k taxa
+unfoldable pub fits : ℕ → ℕ → ℕ → ℕ → Bool
+fits most k c w = ltb 0 c && ltb c (2 ^ k) && eqb (bit c 0) 0 && ltb 0 w && leb w most
+
+-- row i against row j before it: not above it, or in conflict with it
+unfoldable pub clashes : ℕ → List ℕ → ℕ → ℕ → Bool
+clashes k cs i j = leb (getD cs i 0) (getD cs j 0) || conflicts k (getD cs j 0) (getD cs i 0)
+
 unfoldable pub badRow : ℕ → Splits → ℕ → Bool
-badRow most s i =
-    let c = getD (s .clusters) i 0 in
-    let w = getD (s .weights) i 0 in
-    not (ltb 0 c && ltb c (2 ^ s .taxa) && eqb (bit c 0) 0 && ltb 0 w && leb w most)
-    || some (λ j. leb c (getD (s .clusters) j 0) || conflicts (s .taxa) (getD (s .clusters) j 0) c) i
+badRow most s i = not (fits most (s .taxa) (getD (s .clusters) i 0) (getD (s .weights) i 0)) || some (clashes (s .taxa) (s .clusters) i) i
 
 unfoldable pub wellFormed : ℕ → ℕ → Splits → Bool
 wellFormed most n s = leb 1 (s .taxa) && leb (s .taxa) n && leb (s .rows) (2 * s .taxa - 3) && none (badRow most s) (s .rows)

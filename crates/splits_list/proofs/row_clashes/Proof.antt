@@ -6,10 +6,9 @@ use borrow.Author.Count.{below-none, below-more}
 use mathlib.Core.Path.{_≡_, sym, _∙_}
 use mathlib.Core.Bool.{false, true≢false}
 use lib.ListN.{getD}
-use Rattle.statement.specs.Rows.{conflicts}
+use Rattle.statement.specs.Rows.{conflicts, clashes}
 use Rattle.statement.proofs.Lowest.{some-at, none-at}
 use Rattle.statement.proofs.WellFormed.{conflicts-is}
-use Rattle.splits_list.specs.Row.{clashes}
 use Rattle.splits_list.proofs.Checks.{beside, not-beside}
 use Rattle.splits_list.proofs.row_clashes.Statement.{statement}
 use Rattle.splits_list.proofs.row_clashes.Tie as tie
