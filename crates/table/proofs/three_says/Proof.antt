@@ -1,0 +1,65 @@
+use Rattle.table.proofs.three_says.Statement.{statement}
+use Rattle.table.proofs.three_says.Tie as tie
+use Rattle.table.proofs.three_says.Reads as reads
+use Rattle.table.proofs.three_says.Lts as lts
+use Rattle.table.proofs.four_says.Reads as four-says-reads
+use Rattle.table.proofs.lesser_of.Reads as lesser-of-reads
+use Rattle.table.proofs.same_side.Reads as same-side-reads
+
+abbrev Inv-loop : tie.InvT-loop
+Inv-loop n bytes k a c w x y best₀ z₀ best z = ?
+
+abbrev μ-loop : tie.MeasureT-loop
+μ-loop n bytes k a c w x y best₀ z₀ best z = ?
+
+-- src/lib.rt:165:8
+same-side-requires : tie.Need-same-side-requires Inv-loop μ-loop
+same-side-requires c κs = ?
+
+-- src/lib.rt:166:9
+returns : tie.Need-returns Inv-loop μ-loop
+returns c = ?
+
+-- src/lib.rt:170:5
+loop-holds : tie.Need-loop-holds Inv-loop μ-loop
+loop-holds c = ?
+
+-- src/lib.rt:171:26
+four-says-requires : tie.Need-four-says-requires Inv-loop μ-loop
+four-says-requires c κs = ?
+
+-- src/lib.rt:171:9
+lesser-of-requires : tie.Need-lesser-of-requires Inv-loop μ-loop
+lesser-of-requires c κs = ?
+
+-- src/lib.rt:172:9
+add-z : tie.Need-add-z Inv-loop μ-loop
+add-z c = ?
+
+-- src/lib.rt:170:5
+loop-less : tie.Need-loop-less Inv-loop μ-loop
+loop-less c = ?
+
+-- src/lib.rt:170:5
+loop-again : tie.Need-loop-again Inv-loop μ-loop
+loop-again c = ?
+
+-- src/lib.rt:161:1
+returns-2 : tie.Need-returns-2 Inv-loop μ-loop
+returns-2 c = ?
+
+pub three-says-spec : {M : Type 1} → statement M
+three-says-spec =
+    tie.close
+    (tie.spec
+    Inv-loop
+    μ-loop
+    same-side-requires
+    returns
+    loop-holds
+    four-says-requires
+    lesser-of-requires
+    add-z
+    loop-less
+    loop-again
+    returns-2)
