@@ -11,6 +11,7 @@ use borrow.Author.Tests.{eq-eqb, ne-eqb}
 use Rattle.statement.specs.Cluster.{bit}
 use Rattle.statement.specs.Table.{stands, tableWeight}
 use Rattle.statement.specs.Growing.{lesser, partsAs}
+use Rattle.table.specs.Four.{Different}
 use Rattle.table.specs.Says.{fourSays, threeSays, pairSays}
 
 -- THE LOOPS
@@ -65,12 +66,6 @@ module _ (bytes : List ℕ) (a c w x y z : ℕ) where
   unfolding fourSays
   four-z-off e = simp (eq-eqb (bit c z) (bit c a) e, and-false)
 
-  pub four-asked : a ≢ x → y ≢ z → bit c x ≡ bit c a → bit c y ≢ bit c a → bit c z ≢ bit c a
-      → fourSays bytes a c w x y z ≡ cond (stands bytes a x y z) tableWeight 0
-  unfolding fourSays
-  four-asked ax yz sx sy sz =
-      rw (eq-eqb (bit c x) (bit c a) sx, ne-eqb (bit c y) (bit c a) sy, ne-eqb (bit c z) (bit c a) sz, ne-eqb a x ax, ne-eqb y z yz)
-
 -- and so all fours of a, x and y, or of a and x
 pub three-off : (bytes : List ℕ) (k a c w x y : ℕ) → bit c y ≡ bit c a → threeSays bytes k a c w x y ≡ w
 unfolding threeSays
@@ -85,3 +80,38 @@ pair-self bytes k a c w x e = pair-all bytes k a c w x (λ y z. four-self bytes 
 
 pub pair-off : (bytes : List ℕ) (k a c w x : ℕ) → bit c x ≢ bit c a → pairSays bytes k a c w x ≡ w
 pair-off bytes k a c w x e = pair-all bytes k a c w x (λ y z. four-x-off bytes a c w x y z e)
+
+-- FOURS THAT ARE: x is another taxon on a's side, y and z are two on the other
+pub record Asked (c a x y z : ℕ) : Type 0 where
+  pub ax : a ≢ x
+  pub yz : y ≢ z
+  pub x-side : bit c x ≡ bit c a
+  pub y-side : bit c y ≢ bit c a
+  pub z-side : bit c z ≢ bit c a
+
+pub four-asked : (bytes : List ℕ) (a c w x y z : ℕ) (s : Bool) → Asked c a x y z → s ≡ stands bytes a x y z → cond s 1 0 ≡ fourSays bytes a c w x y z
+unfolding fourSays
+four-asked bytes a c w x y z s h e =
+    rw (
+      eq-eqb (bit c x) (bit c a) (h .x-side),
+      ne-eqb (bit c y) (bit c a) (h .y-side),
+      ne-eqb (bit c z) (bit c a) (h .z-side),
+      ne-eqb a x (h .ax),
+      ne-eqb y z (h .yz),
+      e,
+    )
+
+pub asked-different : (n a c x y z : ℕ) → a < n → x < n → y < n → z < n → Asked c a x y z → Different n a x y z
+asked-different n a c x y z la lx ly lz h =
+    record {
+      w-below = la;
+      x-below = lx;
+      y-below = ly;
+      z-below = lz;
+      wx = h .ax;
+      wy = λ e. h .y-side (ap (bit c) (sym e));
+      wz = λ e. h .z-side (ap (bit c) (sym e));
+      xy = λ e. h .y-side (ap (bit c) (sym e) ∙ h .x-side);
+      xz = λ e. h .z-side (ap (bit c) (sym e) ∙ h .x-side);
+      yz = h .yz;
+    }

@@ -1,6 +1,5 @@
 -- What tableTrial takes the lesser of, over fewer and fewer taxa: the trial's three loops each work one of these out.
 use Prim.Native.Nat.{ℕ}
-use mathlib.Core.Logic.{_≢_}
 use mathlib.Core.Bool.{cond, _||_}
 use mathlib.Core.List.{List}
 use lib.Dec.{eqb}
@@ -18,12 +17,3 @@ threeSays bytes k a c w x y = lesser w (fourSays bytes a c w x y) k
 -- the lesser of w and what the fours of a and x say
 unfoldable pub pairSays : List ℕ → ℕ → ℕ → ℕ → ℕ → ℕ → ℕ
 pairSays bytes k a c w x = lesser w (threeSays bytes k a c w x) k
-
--- four different taxa
-pub record Different (w x y z : ℕ) : Type 0 where
-  pub wx : w ≢ x
-  pub wy : w ≢ y
-  pub wz : w ≢ z
-  pub xy : x ≢ y
-  pub xz : x ≢ z
-  pub yz : y ≢ z

@@ -4,7 +4,7 @@ use statement::Outcome;
 
 ghost use mathlib.Core.Path.{_≡_};
 ghost use mathlib.Core.Logic.{_≢_};
-ghost use Prim.Native.Nat.{_≤_, _<_, min, max};
+ghost use Prim.Native.Nat.{_≤_, _<_, min};
 ghost use lib.Dec.{ltb, eqb};
 ghost use lib.ListN.{length, getD};
 ghost use Rattle.statement.specs.Cluster.{bit};
@@ -12,7 +12,8 @@ ghost use Rattle.statement.specs.Table.{choose, place, ordered, stands};
 ghost use Rattle.statement.specs.Lowest.{lowest};
 ghost use Rattle.statement.specs.Refusals.{outcomeOf, tableChecks};
 ghost use Rattle.statement.specs.Growing.{tableTrial};
-ghost use Rattle.table.specs.Says.{Different, fourSays, threeSays, pairSays};
+ghost use Rattle.table.specs.Four.{Different, Sorted, Ascending};
+ghost use Rattle.table.specs.Says.{fourSays, threeSays, pairSays};
 
 // C(p,q), which is 0 if p < q.
 fn binomial(p: usize, q: usize) -> usize
@@ -83,7 +84,7 @@ fn place_of(a: usize, b: usize, c: usize, d: usize) -> usize
 
 // Whether wx|yz stands in the table, for w<x, y<z and w<y.
 fn ordered_stands(n: usize, bytes: &[u8], w: usize, x: usize, y: usize, z: usize) -> bool
-    requires { ⌜ (n ≤ 64) × (length (now bytes) ≡ choose n 4) × (w < x) × (y < z) × (w < y) × (x < n) × (z < n) × (x ≢ y) × (x ≢ z) ⌝ }
+    requires { ⌜ (n ≤ 64) × (length (now bytes) ≡ choose n 4) × Ascending n w x y z ⌝ }
     ensures { λ r. ⌜ r ≡ eqb (getD (now (bytes .entry)) (ordered w x y z .place) 0) (ordered w x y z .byte) ⌝ }
 {
     if x < y {
@@ -105,7 +106,7 @@ struct Pair {
 }
 
 fn in_order(w: usize, x: usize) -> Pair
-    ensures { λ r. ⌜ (r .low ≡ min w x) × (r .high ≡ max w x) ⌝ }
+    ensures { λ r. ⌜ Sorted w x (r .low) (r .high) ⌝ }
 {
     if w < x {
         return Pair { low: w, high: x };
@@ -115,7 +116,7 @@ fn in_order(w: usize, x: usize) -> Pair
 
 // Whether wx|yz stands in the table, for four different taxa in any order.
 pub fn stands_in(n: usize, bytes: &[u8], w: usize, x: usize, y: usize, z: usize) -> bool
-    requires { ⌜ (n ≤ 64) × (length (now bytes) ≡ choose n 4) × (w < n) × (x < n) × (y < n) × (z < n) × Different w x y z ⌝ }
+    requires { ⌜ (n ≤ 64) × (length (now bytes) ≡ choose n 4) × Different n w x y z ⌝ }
     ensures { λ r. ⌜ r ≡ stands (now (bytes .entry)) w x y z ⌝ }
 {
     let p = in_order(w, x);

@@ -1,3 +1,11 @@
+use Prim.Native.Nat.{_-_, _≤_}
+use native.Mathlib.Omega.{arith}
+use mathlib.Core.Path.{_≡_, sym, _∙_}
+use borrow.Author.Needs.{needs}
+use borrow.Author.Tests.{eqb-true, eqb-false}
+use Rattle.statement.specs.Growing.{lesser}
+use Rattle.table.specs.Says.{fourSays, threeSays}
+use Rattle.table.proofs.Said.{lesser-none, lesser-turn, three-off}
 use Rattle.table.proofs.three_says.Statement.{statement}
 use Rattle.table.proofs.three_says.Tie as tie
 use Rattle.table.proofs.three_says.Reads as reads
@@ -7,22 +15,24 @@ use Rattle.table.proofs.lesser_of.Reads as lesser-of-reads
 use Rattle.table.proofs.same_side.Reads as same-side-reads
 
 abbrev Inv-loop : tie.InvT-loop
-Inv-loop n bytes k a c w x y best₀ z₀ best z = ?
+Inv-loop n bytes k a c w x y best₀ z₀ best z = (z ≤ k) × (best ≡ lesser w (fourSays bytes a c w x y) z)
 
 abbrev μ-loop : tie.MeasureT-loop
-μ-loop n bytes k a c w x y best₀ z₀ best z = ?
+μ-loop n bytes k a c w x y best₀ z₀ best z = k - z
 
 -- src/lib.rt:165:8
 same-side-requires : tie.Need-same-side-requires Inv-loop μ-loop
-same-side-requires c κs = ?
+same-side-requires c κs = search needs
 
 -- src/lib.rt:166:9
 returns : tie.Need-returns Inv-loop μ-loop
-returns c = ?
+returns c = 
+    let s = c .before .before .before in
+    sym (three-off (s .args .bytes .now) (s .args .k) (s .args .a) (s .args .c) (s .args .w) (s .args .x) (s .args .y) (eqb-true _ _ (sym (c .before .same-side .ensures) ∙ c .if1 .taken)))
 
 -- src/lib.rt:170:5
 loop-holds : tie.Need-loop-holds Inv-loop μ-loop
-loop-holds c = ?
+loop-holds c = let s = c .before .before .before in (omega arith, lesser-none (s .args .w) (fourSays (s .args .bytes .now) (s .args .a) (s .args .c) (s .args .w) (s .args .x) (s .args .y)))
 
 -- src/lib.rt:171:26
 four-says-requires : tie.Need-four-says-requires Inv-loop μ-loop
@@ -30,15 +40,15 @@ four-says-requires c κs = ?
 
 -- src/lib.rt:171:9
 lesser-of-requires : tie.Need-lesser-of-requires Inv-loop μ-loop
-lesser-of-requires c κs = ?
+lesser-of-requires c κs = search needs
 
 -- src/lib.rt:172:9
 add-z : tie.Need-add-z Inv-loop μ-loop
-add-z c = ?
+add-z c = search needs
 
 -- src/lib.rt:170:5
 loop-less : tie.Need-loop-less Inv-loop μ-loop
-loop-less c = ?
+loop-less c = search needs
 
 -- src/lib.rt:170:5
 loop-again : tie.Need-loop-again Inv-loop μ-loop
