@@ -36,7 +36,10 @@ loop-holds c = let s = c .before .before .before in (omega arith, lesser-none (s
 
 -- src/lib.rt:171:26
 four-says-requires : tie.Need-four-says-requires Inv-loop μ-loop
-four-says-requires c κs = ?
+four-says-requires c κs = 
+    let s = c .before .before .before .before .before in
+    let other = eqb-false _ _ (sym (c .before .before .before .same-side .ensures) ∙ c .before .before .if1 .left) in
+    (s .pre .0, s .pre .1, omega arith, omega arith, omega arith, omega arith, s .pre .6, s .pre .7, other)
 
 -- src/lib.rt:171:9
 lesser-of-requires : tie.Need-lesser-of-requires Inv-loop μ-loop
@@ -52,11 +55,15 @@ loop-less c = search needs
 
 -- src/lib.rt:170:5
 loop-again : tie.Need-loop-again Inv-loop μ-loop
-loop-again c = ?
+loop-again c = 
+    let s = c .before .before .before .before .before .before .before in
+    let l = c .before .before .before .loop in
+    (omega arith, lesser-turn (s .args .w) (fourSays (s .args .bytes .now) (s .args .a) (s .args .c) (s .args .w) (s .args .x) (s .args .y)) (l .z) (c .lesser-of .ensures) (c .before .four-says .ensures) (l .inv .1))
 
 -- src/lib.rt:161:1
 returns-2 : tie.Need-returns-2 Inv-loop μ-loop
-returns-2 c = ?
+unfolding threeSays
+returns-2 c = let e : c .before .loop .z ≡ c .before .before .before .before .before .args .k = omega arith in rw e at (c .before .loop .inv .1)
 
 pub three-says-spec : {M : Type 1} → statement M
 three-says-spec =
