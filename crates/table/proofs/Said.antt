@@ -7,12 +7,19 @@ use mathlib.Core.Logic.{_≢_}
 use mathlib.Core.Bool.{Bool, true, false, cond, not, _&&_, _||_}
 use mathlib.Core.List.{List}
 use lib.Dec.{eqb}
-use borrow.Author.Tests.{eq-eqb, ne-eqb}
+use borrow.Author.Tests.{eq-eqb, ne-eqb, eqb-true, eqb-false}
 use Rattle.statement.specs.Cluster.{bit}
 use Rattle.statement.specs.Table.{stands, tableWeight}
 use Rattle.statement.specs.Growing.{lesser, partsAs}
 use Rattle.table.specs.Four.{Different}
 use Rattle.table.specs.Says.{fourSays, threeSays, pairSays}
+
+-- what a test of sides showed
+pub on-side : (p q : ℕ) {r : Bool} → r ≡ eqb p q → r ≡ true → p ≡ q
+on-side p q e h = eqb-true p q (sym e ∙ h)
+
+pub off-side : (p q : ℕ) {r : Bool} → r ≡ eqb p q → r ≡ false → p ≢ q
+off-side p q e h = eqb-false p q (sym e ∙ h)
 
 -- THE LOOPS
 
@@ -89,16 +96,17 @@ pub record Asked (c a x y z : ℕ) : Type 0 where
   pub y-side : bit c y ≢ bit c a
   pub z-side : bit c z ≢ bit c a
 
-pub four-asked : (bytes : List ℕ) (a c w x y z : ℕ) (s : Bool) → Asked c a x y z → s ≡ stands bytes a x y z → cond s 1 0 ≡ fourSays bytes a c w x y z
+pub four-asked : (bytes : List ℕ) (a c w x y z : ℕ) (s : Bool) {r : Bool} → Asked c a x y z → r ≡ stands bytes a x y z → r ≡ s → cond s 1 0 ≡ fourSays bytes a c w x y z
 unfolding fourSays
-four-asked bytes a c w x y z s h e =
+four-asked bytes a c w x y z s h e t =
     rw (
       eq-eqb (bit c x) (bit c a) (h .x-side),
       ne-eqb (bit c y) (bit c a) (h .y-side),
       ne-eqb (bit c z) (bit c a) (h .z-side),
       ne-eqb a x (h .ax),
       ne-eqb y z (h .yz),
-      e,
+      ← e,
+      t,
     )
 
 pub asked-different : (n a c x y z : ℕ) → a < n → x < n → y < n → z < n → Asked c a x y z → Different n a x y z

@@ -60,20 +60,20 @@ module _ (n w x y z : ℕ) {a b c d : ℕ} (p : Sorted w x a b) (q : Sorted y z 
         wx = min-max w x (h .wx);
         yz = min-max y z (h .yz);
         wy = under (min w x) (min y z) (rw (p .low, q .low) at l)
-             (min-of (λ t. t ≢ min y z) w x (min-of (λ t. w ≢ t) y z (h .wy) (h .wz)) (min-of (λ t. x ≢ t) y z (h .xy) (h .xz)));
+            (min-of (λ t. t ≢ min y z) w x (min-of (λ t. w ≢ t) y z (h .wy) (h .wz)) (min-of (λ t. x ≢ t) y z (h .xy) (h .xz)));
         xy = max-of (λ t. t ≢ min y z) w x (min-of (λ t. w ≢ t) y z (h .wy) (h .wz)) (min-of (λ t. x ≢ t) y z (h .xy) (h .xz));
         xz = max-of (λ t. t ≢ max y z) w x (max-of (λ t. w ≢ t) y z (h .wy) (h .wz)) (max-of (λ t. x ≢ t) y z (h .xy) (h .xz));
         x-below = max-of (λ t. t < n) w x (h .w-below) (h .x-below);
         z-below = max-of (λ t. t < n) y z (h .y-below) (h .z-below);
       })
 
-  pub stands-so : (bytes : List ℕ) → a < c → Held bytes (ordered a b c d) ≡ stands bytes w x y z
+  pub stands-so : (bytes : List ℕ) {r : Bool} → a < c → r ≡ Held bytes (ordered a b c d) → r ≡ stands bytes w x y z
   unfolding lowerFirst
-  stands-so bytes l = rw (← (p .low), ← (p .high), ← (q .low), ← (q .high), lt-ltb a c l)
+  stands-so bytes l e = rw (← (p .low), ← (p .high), ← (q .low), ← (q .high), lt-ltb a c l) e
 
-  pub stands-turned : (bytes : List ℕ) → c ≤ a → Held bytes (ordered c d a b) ≡ stands bytes w x y z
+  pub stands-turned : (bytes : List ℕ) {r : Bool} → c ≤ a → r ≡ Held bytes (ordered c d a b) → r ≡ stands bytes w x y z
   unfolding lowerFirst
-  stands-turned bytes l = rw (← (p .low), ← (p .high), ← (q .low), ← (q .high), le-ltb a c l)
+  stands-turned bytes l e = rw (← (p .low), ← (p .high), ← (q .low), ← (q .high), le-ltb a c l) e
 
 pub other-pair : {n w x y z : ℕ} → Different n w x y z → Different n y z w x
 other-pair h =

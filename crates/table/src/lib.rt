@@ -1,16 +1,15 @@
 // The table of resolved fours: its own checks, what it says of a pairing, and the trial of a split by its fours (document 01, "Table rule",
 // "Growing and the allowance", "Refusal numbers"). The table is lent as its bytes, one for each four of n taxa.
 use statement::Outcome;
-
 ghost use mathlib.Core.Path.{_≡_};
 ghost use mathlib.Core.Logic.{_≢_};
 ghost use Prim.Native.Nat.{_≤_, _<_, min};
-ghost use lib.Dec.{ltb, eqb};
+ghost use lib.Dec.{eqb};
 ghost use lib.ListN.{length, getD};
 ghost use Rattle.statement.specs.Cluster.{bit};
 ghost use Rattle.statement.specs.Table.{choose, place, ordered, stands};
 ghost use Rattle.statement.specs.Lowest.{lowest};
-ghost use Rattle.statement.specs.Refusals.{outcomeOf, tableChecks};
+ghost use Rattle.statement.specs.Refusals.{outcomeOf, byteOff, tableChecks};
 ghost use Rattle.statement.specs.Growing.{tableTrial};
 ghost use Rattle.table.specs.Four.{Different, Sorted, Ascending};
 ghost use Rattle.table.specs.Says.{fourSays, threeSays, pairSays};
@@ -42,16 +41,16 @@ pub fn fours(n: usize) -> usize
 
 // The lowest place of a byte above 3, or the length where there is none.
 fn lowest_above_three(bytes: &[u8]) -> usize
-    ensures { λ r. ⌜ r ≡ lowest (λ e. ltb 3 (getD (now (bytes .entry)) e 0)) (length (now (bytes .entry))) ⌝ }
+    ensures { λ r. ⌜ r ≡ lowest (byteOff (now (bytes .entry)) .bad) (length (now (bytes .entry))) ⌝ }
 {
-    let mut i: usize = 0;
-    while i < bytes.len() {
-        if 3 < bytes[i] {
-            return i;
+    let mut at: usize = 0;
+    while at < bytes.len() {
+        if 3 < bytes[at] {
+            return at;
         }
-        i += 1;
+        at += 1;
     }
-    i
+    at
 }
 
 // The table's own checks: 1, 2, 6.

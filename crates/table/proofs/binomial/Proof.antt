@@ -1,3 +1,4 @@
+-- `table::binomial` meets its contract. The loop has C(p,i), and goes on by (q + 1) C(p,q+1) = C(p,q) (p - q). Assumes nothing.
 use native.Mathlib.Numerals.{add-one}
 use Prim.Native.Nat.{_+_, _*_, _-_, _/_, _^_, _≤_}
 use native.Mathlib.Omega.{arith}
@@ -7,8 +8,6 @@ use Rattle.statement.specs.Table.{choose}
 use Rattle.table.proofs.Choose.{choose-none, choose-next, choose-fits}
 use Rattle.table.proofs.binomial.Statement.{statement}
 use Rattle.table.proofs.binomial.Tie as tie
-use Rattle.table.proofs.binomial.Reads as reads
-use Rattle.table.proofs.binomial.Lts as lts
 
 abbrev Inv-loop : tie.InvT-loop
 Inv-loop p q r₀ i₀ r i = (i ≤ q) × (r ≡ choose p i)
@@ -16,50 +15,40 @@ Inv-loop p q r₀ i₀ r i = (i ≤ q) × (r ≡ choose p i)
 abbrev μ-loop : tie.MeasureT-loop
 μ-loop p q r₀ i₀ r i = q - i
 
--- src/lib.rt:23:9
 returns : tie.Need-returns Inv-loop μ-loop
 returns c = sym (choose-none (c .before .args .p) (c .before .args .q) (omega arith))
 
--- src/lib.rt:27:5
 loop-holds : tie.Need-loop-holds Inv-loop μ-loop
 unfolding choose
 loop-holds c = (omega arith, refl)
 
--- src/lib.rt:28:18
 sub-r : tie.Need-sub-r Inv-loop μ-loop
 sub-r c = search needs
 
--- src/lib.rt:28:13
 mul-r : tie.Need-mul-r Inv-loop μ-loop
-mul-r c = 
+mul-r c =
     let p = c .before .before .before .args .p in
     let l = c .before .loop in
     let f : l .r * (p - l .i) ≤ 64 ^ 5 = rw (l .inv .1) (choose-fits p (l .i) (omega arith) (omega arith)) in
     omega arith
 
--- src/lib.rt:28:28
 add-r : tie.Need-add-r Inv-loop μ-loop
 add-r c = search needs
 
--- src/lib.rt:28:13
 div-r : tie.Need-div-r Inv-loop μ-loop
 div-r c = search needs
 
--- src/lib.rt:29:9
 add-i : tie.Need-add-i Inv-loop μ-loop
 add-i c = search needs
 
--- src/lib.rt:27:5
 loop-less : tie.Need-loop-less Inv-loop μ-loop
 loop-less c = search needs
 
--- src/lib.rt:27:5
 loop-again : tie.Need-loop-again Inv-loop μ-loop
-loop-again c = 
+loop-again c =
     let l = c .before .loop in
     (omega arith, rw (l .inv .1, add-one) (choose-next (c .before .before .before .args .p) (l .i)))
 
--- src/lib.rt:18:1
 returns-2 : tie.Need-returns-2 Inv-loop μ-loop
 returns-2 c = let e : c .before .loop .i ≡ c .before .before .before .args .q = omega arith in rw e at (c .before .loop .inv .1)
 

@@ -1,42 +1,32 @@
+-- `table::check` meets its contract: each way out is a law of the list of checks. Assumes nothing.
 use native.Mathlib.Omega.{arith}
 use Rattle.table.proofs.Refused.{too-few, too-many, wrong-length, wrong-byte, accepted}
 use borrow.Author.Needs.{needs}
 use Rattle.table.proofs.check.Statement.{statement}
 use Rattle.table.proofs.check.Tie as tie
-use Rattle.table.proofs.check.Reads as reads
-use Rattle.table.proofs.check.Lts as lts
-use Rattle.table.proofs.fours.Reads as fours-reads
-use Rattle.table.proofs.lowest_above_three.Reads as lowest-above-three-reads
 
--- src/lib.rt:61:9
 returns : tie.Need-returns
 returns c = let s = c .before .before .args in too-few (s .n) (s .bytes .now) (omega arith)
 
--- src/lib.rt:64:9
 returns-2 : tie.Need-returns-2
 returns-2 c = let s = c .before .before .before .args in too-many (s .n) (s .bytes .now) (omega arith) (omega arith)
 
--- src/lib.rt:66:23
 fours-requires : tie.Need-fours-requires
 fours-requires c κs = search needs
 
--- src/lib.rt:67:9
 returns-3 : tie.Need-returns-3
 returns-3 c = let s = c .before .before .before .before .before .args in wrong-length (s .n) (s .bytes .now) (omega arith) (omega arith) (λ e. omega arith)
 
--- src/lib.rt:69:9
 lowest-above-three-requires : tie.Need-lowest-above-three-requires
 lowest-above-three-requires c κs = search needs
 
--- src/lib.rt:71:9
 returns-4 : tie.Need-returns-4
-returns-4 c = 
+returns-4 c =
     let s = c .before .before .before .before .before .before .before .args in
     wrong-byte (s .n) (s .bytes .now) (c .before .lowest-above-three .result) (c .before .lowest-above-three .ensures) (omega arith) (omega arith) (omega arith) (omega arith)
 
--- src/lib.rt:57:1
 returns-5 : tie.Need-returns-5
-returns-5 c = 
+returns-5 c =
     let s = c .before .before .before .before .before .before .before .args in
     accepted (s .n) (s .bytes .now) (c .before .lowest-above-three .result) (c .before .lowest-above-three .ensures) (omega arith) (omega arith) (omega arith) (omega arith)
 

@@ -1,3 +1,4 @@
+-- `table::ordered_stands` meets its contract: each place is below C(n,4), and each test picks one of the three pairings. Assumes nothing.
 use native.Mathlib.Omega.{arith}
 use mathlib.Core.Path.{_≡_, sym, _∙_}
 use Rattle.table.proofs.Choose.{place-below}
@@ -5,43 +6,31 @@ use Rattle.table.proofs.Standing.{held-first, held-second, held-third}
 use borrow.Author.Needs.{needs}
 use Rattle.table.proofs.ordered_stands.Statement.{statement}
 use Rattle.table.proofs.ordered_stands.Tie as tie
-use Rattle.table.proofs.ordered_stands.Reads as reads
-use Rattle.table.proofs.ordered_stands.Lts as lts
-use Rattle.table.proofs.place_of.Reads as place-of-reads
 
--- src/lib.rt:90:13
 place-of-requires : tie.Need-place-of-requires
 place-of-requires c κs = search needs
 
--- src/lib.rt:91:16
 shared-slice-read-result : tie.Need-shared-slice-read-result
 shared-slice-read-result c = let s = c .before .before .before .before .args in omega (arith, place-below (s .w) (s .x) (s .y) (s .z) (s .n) (omega arith) (omega arith) (omega arith) (omega arith))
 
--- src/lib.rt:91:9
 returns : tie.Need-returns
 returns c = let s = c .before .before .before .before .args in rw (c .before .place-of .ensures) (sym (held-first (s .bytes .now) (s .w) (s .x) (s .y) (s .z) (omega arith)))
 
--- src/lib.rt:94:13
 place-of-requires-2 : tie.Need-place-of-requires-2
 place-of-requires-2 c κs = search needs
 
--- src/lib.rt:95:16
 shared-slice-read-result-2 : tie.Need-shared-slice-read-result-2
 shared-slice-read-result-2 c = let s = c .before .before .before .before .before .args in omega (arith, place-below (s .w) (s .y) (s .x) (s .z) (s .n) (omega arith) (omega arith) (omega arith) (omega arith))
 
--- src/lib.rt:95:9
 returns-2 : tie.Need-returns-2
 returns-2 c = let s = c .before .before .before .before .before .args in rw (c .before .place-of2 .ensures) (sym (held-second (s .bytes .now) (s .w) (s .x) (s .y) (s .z) (omega arith) (omega arith)))
 
--- src/lib.rt:97:9
 place-of-requires-3 : tie.Need-place-of-requires-3
 place-of-requires-3 c κs = search needs
 
--- src/lib.rt:98:5
 shared-slice-read-result-3 : tie.Need-shared-slice-read-result-3
 shared-slice-read-result-3 c = let s = c .before .before .before .before .before .args in omega (arith, place-below (s .w) (s .y) (s .z) (s .x) (s .n) (omega arith) (omega arith) (omega arith) (omega arith))
 
--- src/lib.rt:85:1
 returns-3 : tie.Need-returns-3
 returns-3 c = let s = c .before .before .before .before .before .args in rw (c .before .place-of3 .ensures) (sym (held-third (s .bytes .now) (s .w) (s .x) (s .y) (s .z) (omega arith) (omega arith)))
 

@@ -1,18 +1,14 @@
+-- `table::pair_says` meets its contract: the loop has the lesser of w and what the fours with a lower y say. Assumes nothing.
 use Prim.Native.Nat.{_-_, _≤_}
 use native.Mathlib.Omega.{arith}
-use mathlib.Core.Path.{_≡_, sym, _∙_}
+use mathlib.Core.Path.{_≡_, sym}
 use borrow.Author.Needs.{needs}
-use borrow.Author.Tests.{eqb-true, eqb-false, not-true, not-false}
+use borrow.Author.Tests.{not-true, not-false}
 use Rattle.statement.specs.Growing.{lesser}
 use Rattle.table.specs.Says.{threeSays, pairSays}
-use Rattle.table.proofs.Said.{lesser-none, lesser-turn, pair-self, pair-off}
+use Rattle.table.proofs.Said.{on-side, off-side, lesser-none, lesser-turn, pair-self, pair-off}
 use Rattle.table.proofs.pair_says.Statement.{statement}
 use Rattle.table.proofs.pair_says.Tie as tie
-use Rattle.table.proofs.pair_says.Reads as reads
-use Rattle.table.proofs.pair_says.Lts as lts
-use Rattle.table.proofs.lesser_of.Reads as lesser-of-reads
-use Rattle.table.proofs.same_side.Reads as same-side-reads
-use Rattle.table.proofs.three_says.Reads as three-says-reads
 
 abbrev Inv-loop : tie.InvT-loop
 Inv-loop n bytes k a c w x best₀ y₀ best y = (y ≤ k) × (best ≡ lesser w (threeSays bytes k a c w x) y)
@@ -20,51 +16,40 @@ Inv-loop n bytes k a c w x best₀ y₀ best y = (y ≤ k) × (best ≡ lesser w
 abbrev μ-loop : tie.MeasureT-loop
 μ-loop n bytes k a c w x best₀ y₀ best y = k - y
 
--- src/lib.rt:183:9
 returns : tie.Need-returns Inv-loop μ-loop
 returns c = let s = c .before .before in sym (pair-self (s .args .bytes .now) (s .args .k) (s .args .a) (s .args .c) (s .args .w) (s .args .x) (c .if1 .taken))
 
--- src/lib.rt:185:9
 same-side-requires : tie.Need-same-side-requires Inv-loop μ-loop
 same-side-requires c κs = search needs
 
--- src/lib.rt:186:9
 returns-2 : tie.Need-returns-2 Inv-loop μ-loop
-returns-2 c = 
+returns-2 c =
     let s = c .before .before .before .before in
-    sym (pair-off (s .args .bytes .now) (s .args .k) (s .args .a) (s .args .c) (s .args .w) (s .args .x) (eqb-false _ _ (sym (c .before .same-side .ensures) ∙ not-true _ (c .if2 .taken))))
+    sym (pair-off (s .args .bytes .now) (s .args .k) (s .args .a) (s .args .c) (s .args .w) (s .args .x) (off-side _ _ (c .before .same-side .ensures) (not-true _ (c .if2 .taken))))
 
--- src/lib.rt:190:5
 loop-holds : tie.Need-loop-holds Inv-loop μ-loop
 loop-holds c = let s = c .before .before .before .before in (omega arith, lesser-none (s .args .w) (threeSays (s .args .bytes .now) (s .args .k) (s .args .a) (s .args .c) (s .args .w) (s .args .x)))
 
--- src/lib.rt:191:26
 three-says-requires : tie.Need-three-says-requires Inv-loop μ-loop
-three-says-requires c κs = 
+three-says-requires c κs =
     let s = c .before .before .before .before .before .before in
-    let same = eqb-true _ _ (sym (c .before .before .before .same-side .ensures) ∙ not-false _ (c .before .before .if2 .left)) in
-    (s .pre .0, s .pre .1, s .pre .2, s .pre .3, s .pre .4, omega arith, c .before .before .before .before .if1 .left, same)
+    (s .pre .0, s .pre .1, s .pre .2, s .pre .3, s .pre .4, omega arith, c .before .before .before .before .if1 .left, on-side _ _ (c .before .before .before .same-side .ensures) (not-false _ (c .before .before .if2 .left)))
 
--- src/lib.rt:191:9
 lesser-of-requires : tie.Need-lesser-of-requires Inv-loop μ-loop
 lesser-of-requires c κs = search needs
 
--- src/lib.rt:192:9
 add-y : tie.Need-add-y Inv-loop μ-loop
 add-y c = search needs
 
--- src/lib.rt:190:5
 loop-less : tie.Need-loop-less Inv-loop μ-loop
 loop-less c = search needs
 
--- src/lib.rt:190:5
 loop-again : tie.Need-loop-again Inv-loop μ-loop
-loop-again c = 
+loop-again c =
     let s = c .before .before .before .before .before .before .before .before in
     let l = c .before .before .before .loop in
     (omega arith, lesser-turn (s .args .w) (threeSays (s .args .bytes .now) (s .args .k) (s .args .a) (s .args .c) (s .args .w) (s .args .x)) (l .y) (c .lesser-of .ensures) (c .before .three-says .ensures) (l .inv .1))
 
--- src/lib.rt:178:1
 returns-3 : tie.Need-returns-3 Inv-loop μ-loop
 unfolding pairSays
 returns-3 c = let e : c .before .loop .y ≡ c .before .before .before .before .before .before .args .k = omega arith in rw e at (c .before .loop .inv .1)

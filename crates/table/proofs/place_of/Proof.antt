@@ -1,41 +1,32 @@
+-- `table::place_of` meets its contract: each C(p,q) is at most 64 to the q, so the sums fit. Assumes nothing.
 use native.Mathlib.Omega.{arith}
 use Rattle.table.proofs.Choose.{choose-most}
 use borrow.Author.Needs.{needs}
 use Rattle.table.proofs.place_of.Statement.{statement}
 use Rattle.table.proofs.place_of.Tie as tie
-use Rattle.table.proofs.place_of.Reads as reads
-use Rattle.table.proofs.place_of.Lts as lts
-use Rattle.table.proofs.binomial.Reads as binomial-reads
 
--- src/lib.rt:81:9
 binomial-requires : tie.Need-binomial-requires
 binomial-requires c κs = search needs
 
--- src/lib.rt:81:5
 add-result : tie.Need-add-result
 add-result c = omega (arith, choose-most (c .before .args .b) 2 (omega arith))
 
--- src/lib.rt:81:26
 binomial-requires-2 : tie.Need-binomial-requires-2
 binomial-requires-2 c κs = search needs
 
--- src/lib.rt:81:5
 add-result-2 : tie.Need-add-result-2
-add-result-2 c = 
+add-result-2 c =
     let s = c .before .before .args in
     omega (arith, choose-most (s .b) 2 (omega arith), choose-most (s .c) 3 (omega arith))
 
--- src/lib.rt:81:43
 binomial-requires-3 : tie.Need-binomial-requires-3
 binomial-requires-3 c κs = search needs
 
--- src/lib.rt:81:5
 add-result-3 : tie.Need-add-result-3
-add-result-3 c = 
+add-result-3 c =
     let s = c .before .before .before .args in
     omega (arith, choose-most (s .b) 2 (omega arith), choose-most (s .c) 3 (omega arith), choose-most (s .d) 4 (omega arith))
 
--- src/lib.rt:77:1
 returns : tie.Need-returns
 returns c = search needs
 

@@ -1,45 +1,35 @@
+-- `table::stands_in` meets its contract: four different taxa, once in order, are two ascending pairs. Assumes nothing.
 use native.Mathlib.Omega.{arith}
-use mathlib.Core.Path.{_∙_}
 use Rattle.table.proofs.Standing.{ascending, stands-so, stands-turned, other-pair}
 use borrow.Author.Needs.{needs}
 use Rattle.table.proofs.stands_in.Statement.{statement}
 use Rattle.table.proofs.stands_in.Tie as tie
-use Rattle.table.proofs.stands_in.Reads as reads
-use Rattle.table.proofs.stands_in.Lts as lts
-use Rattle.table.proofs.in_order.Reads as in-order-reads
-use Rattle.table.proofs.ordered_stands.Reads as ordered-stands-reads
 
--- src/lib.rt:121:9
 in-order-requires : tie.Need-in-order-requires
 in-order-requires c κs = search needs
 
--- src/lib.rt:122:9
 in-order-requires-2 : tie.Need-in-order-requires-2
 in-order-requires-2 c κs = search needs
 
--- src/lib.rt:124:9
 ordered-stands-requires : tie.Need-ordered-stands-requires
-ordered-stands-requires c κs = 
+ordered-stands-requires c κs =
     let s = c .before .before .before .before .before .before in
     (s .pre .0, s .pre .1, ascending (s .args .n) (s .args .w) (s .args .x) (s .args .y) (s .args .z) (c .before .before .before .before .in-order .ensures) (c .before .before .before .in-order2 .ensures) (s .pre .2) (omega arith))
 
--- src/lib.rt:124:9
 returns : tie.Need-returns
-returns c = 
+returns c =
     let s = c .before .before .before .before .before .before .before in
-    c .ordered-stands .ensures ∙ stands-so (s .args .n) (s .args .w) (s .args .x) (s .args .y) (s .args .z) (c .before .before .before .before .before .in-order .ensures) (c .before .before .before .before .in-order2 .ensures) (s .args .bytes .now) (omega arith)
+    stands-so (s .args .n) (s .args .w) (s .args .x) (s .args .y) (s .args .z) (c .before .before .before .before .before .in-order .ensures) (c .before .before .before .before .in-order2 .ensures) (s .args .bytes .now) (omega arith) (c .ordered-stands .ensures)
 
--- src/lib.rt:126:5
 ordered-stands-requires-2 : tie.Need-ordered-stands-requires-2
-ordered-stands-requires-2 c κs = 
+ordered-stands-requires-2 c κs =
     let s = c .before .before .before .before .before .before in
     (s .pre .0, s .pre .1, ascending (s .args .n) (s .args .y) (s .args .z) (s .args .w) (s .args .x) (c .before .before .before .in-order2 .ensures) (c .before .before .before .before .in-order .ensures) (other-pair (s .pre .2)) (omega arith))
 
--- src/lib.rt:117:1
 returns-2 : tie.Need-returns-2
-returns-2 c = 
+returns-2 c =
     let s = c .before .before .before .before .before .before .before in
-    c .ordered-stands2 .ensures ∙ stands-turned (s .args .n) (s .args .w) (s .args .x) (s .args .y) (s .args .z) (c .before .before .before .before .before .in-order .ensures) (c .before .before .before .before .in-order2 .ensures) (s .args .bytes .now) (omega arith)
+    stands-turned (s .args .n) (s .args .w) (s .args .x) (s .args .y) (s .args .z) (c .before .before .before .before .before .in-order .ensures) (c .before .before .before .before .in-order2 .ensures) (s .args .bytes .now) (omega arith) (c .ordered-stands2 .ensures)
 
 pub stands-in-spec : {M : Type 1} → statement M
 stands-in-spec =

@@ -1,18 +1,13 @@
+-- `table::three_says` meets its contract: the loop has the lesser of w and what the fours with a lower z say. Assumes nothing.
 use Prim.Native.Nat.{_-_, _≤_}
 use native.Mathlib.Omega.{arith}
-use mathlib.Core.Path.{_≡_, sym, _∙_}
+use mathlib.Core.Path.{_≡_, sym}
 use borrow.Author.Needs.{needs}
-use borrow.Author.Tests.{eqb-true, eqb-false}
 use Rattle.statement.specs.Growing.{lesser}
 use Rattle.table.specs.Says.{fourSays, threeSays}
-use Rattle.table.proofs.Said.{lesser-none, lesser-turn, three-off}
+use Rattle.table.proofs.Said.{on-side, off-side, lesser-none, lesser-turn, three-off}
 use Rattle.table.proofs.three_says.Statement.{statement}
 use Rattle.table.proofs.three_says.Tie as tie
-use Rattle.table.proofs.three_says.Reads as reads
-use Rattle.table.proofs.three_says.Lts as lts
-use Rattle.table.proofs.four_says.Reads as four-says-reads
-use Rattle.table.proofs.lesser_of.Reads as lesser-of-reads
-use Rattle.table.proofs.same_side.Reads as same-side-reads
 
 abbrev Inv-loop : tie.InvT-loop
 Inv-loop n bytes k a c w x y best₀ z₀ best z = (z ≤ k) × (best ≡ lesser w (fourSays bytes a c w x y) z)
@@ -20,47 +15,37 @@ Inv-loop n bytes k a c w x y best₀ z₀ best z = (z ≤ k) × (best ≡ lesser
 abbrev μ-loop : tie.MeasureT-loop
 μ-loop n bytes k a c w x y best₀ z₀ best z = k - z
 
--- src/lib.rt:165:8
 same-side-requires : tie.Need-same-side-requires Inv-loop μ-loop
 same-side-requires c κs = search needs
 
--- src/lib.rt:166:9
 returns : tie.Need-returns Inv-loop μ-loop
-returns c = 
+returns c =
     let s = c .before .before .before in
-    sym (three-off (s .args .bytes .now) (s .args .k) (s .args .a) (s .args .c) (s .args .w) (s .args .x) (s .args .y) (eqb-true _ _ (sym (c .before .same-side .ensures) ∙ c .if1 .taken)))
+    sym (three-off (s .args .bytes .now) (s .args .k) (s .args .a) (s .args .c) (s .args .w) (s .args .x) (s .args .y) (on-side _ _ (c .before .same-side .ensures) (c .if1 .taken)))
 
--- src/lib.rt:170:5
 loop-holds : tie.Need-loop-holds Inv-loop μ-loop
 loop-holds c = let s = c .before .before .before in (omega arith, lesser-none (s .args .w) (fourSays (s .args .bytes .now) (s .args .a) (s .args .c) (s .args .w) (s .args .x) (s .args .y)))
 
--- src/lib.rt:171:26
 four-says-requires : tie.Need-four-says-requires Inv-loop μ-loop
-four-says-requires c κs = 
+four-says-requires c κs =
     let s = c .before .before .before .before .before in
-    let other = eqb-false _ _ (sym (c .before .before .before .same-side .ensures) ∙ c .before .before .if1 .left) in
-    (s .pre .0, s .pre .1, omega arith, omega arith, omega arith, omega arith, s .pre .6, s .pre .7, other)
+    (s .pre .0, s .pre .1, omega arith, omega arith, omega arith, omega arith, s .pre .6, s .pre .7, off-side _ _ (c .before .before .before .same-side .ensures) (c .before .before .if1 .left))
 
--- src/lib.rt:171:9
 lesser-of-requires : tie.Need-lesser-of-requires Inv-loop μ-loop
 lesser-of-requires c κs = search needs
 
--- src/lib.rt:172:9
 add-z : tie.Need-add-z Inv-loop μ-loop
 add-z c = search needs
 
--- src/lib.rt:170:5
 loop-less : tie.Need-loop-less Inv-loop μ-loop
 loop-less c = search needs
 
--- src/lib.rt:170:5
 loop-again : tie.Need-loop-again Inv-loop μ-loop
-loop-again c = 
+loop-again c =
     let s = c .before .before .before .before .before .before .before in
     let l = c .before .before .before .loop in
     (omega arith, lesser-turn (s .args .w) (fourSays (s .args .bytes .now) (s .args .a) (s .args .c) (s .args .w) (s .args .x) (s .args .y)) (l .z) (c .lesser-of .ensures) (c .before .four-says .ensures) (l .inv .1))
 
--- src/lib.rt:161:1
 returns-2 : tie.Need-returns-2 Inv-loop μ-loop
 unfolding threeSays
 returns-2 c = let e : c .before .loop .z ≡ c .before .before .before .before .before .args .k = omega arith in rw e at (c .before .loop .inv .1)
