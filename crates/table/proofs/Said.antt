@@ -116,10 +116,13 @@ asked-different n a c x y z la lx ly lz h =
       x-below = lx;
       y-below = ly;
       z-below = lz;
-      wx = h .ax;
-      wy = λ e. h .y-side (ap (bit c) (sym e));
-      wz = λ e. h .z-side (ap (bit c) (sym e));
-      xy = λ e. h .y-side (ap (bit c) (sym e) ∙ h .x-side);
-      xz = λ e. h .z-side (ap (bit c) (sym e) ∙ h .x-side);
-      yz = h .yz;
+      apart =
+      record {
+        wx = h .ax;
+        wy = λ e. h .y-side (ap (bit c) (sym e));
+        wz = λ e. h .z-side (ap (bit c) (sym e));
+        xy = λ e. h .y-side (ap (bit c) (sym e) ∙ h .x-side);
+        xz = λ e. h .z-side (ap (bit c) (sym e) ∙ h .x-side);
+        yz = h .yz;
+      };
     }

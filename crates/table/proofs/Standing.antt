@@ -10,7 +10,8 @@ use lib.Dec.{eqb}
 use lib.ListN.{getD}
 use borrow.Author.Tests.{lt-ltb, le-ltb}
 use Rattle.statement.specs.Table.{Pairing, place, ordered, lowerFirst, stands}
-use Rattle.table.specs.Four.{Different, Sorted, Ascending}
+use Rattle.statement.proofs.Table.{distinct-flip}
+use Rattle.table.specs.Four.{Different, Sorted, InOrder}
 
 -- the table has this pairing's byte at its place
 abbrev pub Held : List ℕ → Pairing → Bool
@@ -53,16 +54,17 @@ under a b l d = omega arith
 
 -- wx|yz in any order: ab is one of its pairs, lower taxon first, and cd the other
 module _ (n w x y z : ℕ) {a b c d : ℕ} (p : Sorted w x a b) (q : Sorted y z c d) where
-  pub ascending : Different n w x y z → a ≤ c → Ascending n a b c d
-  ascending h l =
+  pub in-order : Different n w x y z → a ≤ c → InOrder n a b c d
+  in-order h l =
+      let d = h .apart in
       rw (p .low, p .high, q .low, q .high)
       (record {
-        wx = min-max w x (h .wx);
-        yz = min-max y z (h .yz);
+        wx = min-max w x (d .wx);
+        yz = min-max y z (d .yz);
         wy = under (min w x) (min y z) (rw (p .low, q .low) at l)
-            (min-of (λ t. t ≢ min y z) w x (min-of (λ t. w ≢ t) y z (h .wy) (h .wz)) (min-of (λ t. x ≢ t) y z (h .xy) (h .xz)));
-        xy = max-of (λ t. t ≢ min y z) w x (min-of (λ t. w ≢ t) y z (h .wy) (h .wz)) (min-of (λ t. x ≢ t) y z (h .xy) (h .xz));
-        xz = max-of (λ t. t ≢ max y z) w x (max-of (λ t. w ≢ t) y z (h .wy) (h .wz)) (max-of (λ t. x ≢ t) y z (h .xy) (h .xz));
+            (min-of (λ t. t ≢ min y z) w x (min-of (λ t. w ≢ t) y z (d .wy) (d .wz)) (min-of (λ t. x ≢ t) y z (d .xy) (d .xz)));
+        xy = max-of (λ t. t ≢ min y z) w x (min-of (λ t. w ≢ t) y z (d .wy) (d .wz)) (min-of (λ t. x ≢ t) y z (d .xy) (d .xz));
+        xz = max-of (λ t. t ≢ max y z) w x (max-of (λ t. w ≢ t) y z (d .wy) (d .wz)) (max-of (λ t. x ≢ t) y z (d .xy) (d .xz));
         x-below = max-of (λ t. t < n) w x (h .w-below) (h .x-below);
         z-below = max-of (λ t. t < n) y z (h .y-below) (h .z-below);
       })
@@ -82,10 +84,5 @@ other-pair h =
       x-below = h .z-below;
       y-below = h .w-below;
       z-below = h .x-below;
-      wx = h .yz;
-      wy = λ e. h .wy (sym e);
-      wz = λ e. h .xy (sym e);
-      xy = λ e. h .wz (sym e);
-      xz = λ e. h .xz (sym e);
-      yz = h .wx;
+      apart = distinct-flip (h .apart);
     }

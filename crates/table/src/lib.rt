@@ -11,7 +11,7 @@ ghost use Rattle.statement.specs.Table.{choose, place, ordered, stands};
 ghost use Rattle.statement.specs.Lowest.{lowest};
 ghost use Rattle.statement.specs.Refusals.{outcomeOf, byteOff, tableChecks};
 ghost use Rattle.statement.specs.Growing.{tableTrial};
-ghost use Rattle.table.specs.Four.{Different, Sorted, Ascending};
+ghost use Rattle.table.specs.Four.{Different, Sorted, InOrder};
 ghost use Rattle.table.specs.Says.{fourSays, threeSays, pairSays};
 
 // C(p,q), which is 0 if p < q.
@@ -83,7 +83,7 @@ fn place_of(a: usize, b: usize, c: usize, d: usize) -> usize
 
 // Whether wx|yz stands in the table, for w<x, y<z and w<y.
 fn ordered_stands(n: usize, bytes: &[u8], w: usize, x: usize, y: usize, z: usize) -> bool
-    requires { ⌜ (n ≤ 64) × (length (now bytes) ≡ choose n 4) × Ascending n w x y z ⌝ }
+    requires { ⌜ (n ≤ 64) × (length (now bytes) ≡ choose n 4) × InOrder n w x y z ⌝ }
     ensures { λ r. ⌜ r ≡ eqb (getD (now (bytes .entry)) (ordered w x y z .place) 0) (ordered w x y z .byte) ⌝ }
 {
     if x < y {
@@ -104,7 +104,7 @@ struct Pair {
     high: usize,
 }
 
-fn in_order(w: usize, x: usize) -> Pair
+fn sorted(w: usize, x: usize) -> Pair
     ensures { λ r. ⌜ Sorted w x (r .low) (r .high) ⌝ }
 {
     if w < x {
@@ -118,8 +118,8 @@ pub fn stands_in(n: usize, bytes: &[u8], w: usize, x: usize, y: usize, z: usize)
     requires { ⌜ (n ≤ 64) × (length (now bytes) ≡ choose n 4) × Different n w x y z ⌝ }
     ensures { λ r. ⌜ r ≡ stands (now (bytes .entry)) w x y z ⌝ }
 {
-    let p = in_order(w, x);
-    let q = in_order(y, z);
+    let p = sorted(w, x);
+    let q = sorted(y, z);
     if p.low < q.low {
         return ordered_stands(n, bytes, p.low, p.high, q.low, q.high);
     }
@@ -134,6 +134,7 @@ fn same_side(c: u64, a: usize, i: usize) -> bool
     (c >> i) % 2 == (c >> a) % 2
 }
 
+// The lesser of two weights.
 fn lesser_of(v: u32, w: u32) -> u32
     ensures { λ r. ⌜ r ≡ min v w ⌝ }
 {
@@ -194,7 +195,7 @@ fn pair_says(n: usize, bytes: &[u8], k: usize, a: usize, c: u64, w: u32, x: usiz
     best
 }
 
-// The trial of the split c of the first k taxa by its fours ax|yz: 0 where one of them does not stand in the table, else the lesser of w and 1.
+// The trial of the split c of the first k taxa by its fours ax|yz that include the taxon a: the lesser of w and what they say.
 pub fn trial(n: usize, bytes: &[u8], k: usize, a: usize, c: u64, w: u32) -> u32
     requires { ⌜ (n ≤ 64) × (length (now bytes) ≡ choose n 4) × (k ≤ n) × (a < k) ⌝ }
     ensures { λ r. ⌜ r ≡ tableTrial (now (bytes .entry)) k a c w ⌝ }
