@@ -3,7 +3,7 @@ use Prim.Native.Nat.{ℕ, zero, suc, _+_, _*_, _-_, _/_, _^_, _≤_, _<_}
 use native.Mathlib.Omega.{arith}
 use native.Mathlib.Decide.{decLt, le-ind}
 use native.Mathlib.Nat.{zero-mul, add-mul, mul-add, suc-mul, mul-suc, mul-le-mul, div-eq-of-eq-mul-right, pow-suc, suc-sub-suc, pow-le-pow-right, le-trans}
-use mathlib.Core.Path.{_≡_, refl, sym, ap, _∙_}
+use mathlib.Core.Path.{_≡_, refl, sym}
 use Rattle.statement.specs.Table.{choose, place}
 
 pub choose-none : (p q : ℕ) → p < q → choose p q ≡ 0

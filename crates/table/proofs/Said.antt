@@ -1,16 +1,16 @@
 -- What the fours of a split say in a trial: nothing against it where they are not asked. Assumes nothing.
-use Prim.Native.Nat.{ℕ, zero, suc, _+_, _≤_, _<_, min}
+use Prim.Native.Nat.{ℕ, zero, suc, _+_, _<_, min}
 use native.Mathlib.Omega.{arith}
 use native.Mathlib.Numerals.{add-one}
 use mathlib.Core.Path.{_≡_, refl, sym, _∙_, ap, ap₂}
 use mathlib.Core.Logic.{_≢_}
-use mathlib.Core.Bool.{Bool, true, false, cond, not, _&&_, _||_}
+use mathlib.Core.Bool.{Bool, true, false, cond, _&&_, _||_}
 use mathlib.Core.List.{List}
 use lib.Dec.{eqb}
 use borrow.Author.Tests.{eq-eqb, ne-eqb, eqb-true, eqb-false}
 use Rattle.statement.specs.Cluster.{bit}
-use Rattle.statement.specs.Table.{stands, tableWeight}
-use Rattle.statement.specs.Growing.{lesser, partsAs}
+use Rattle.statement.specs.Table.{stands}
+use Rattle.statement.specs.Growing.{lesser}
 use Rattle.table.specs.Four.{Different}
 use Rattle.table.specs.Says.{fourSays, threeSays, pairSays}
 
@@ -117,12 +117,12 @@ asked-different n a c x y z la lx ly lz h =
       y-below = ly;
       z-below = lz;
       apart =
-      record {
-        wx = h .ax;
-        wy = λ e. h .y-side (ap (bit c) (sym e));
-        wz = λ e. h .z-side (ap (bit c) (sym e));
-        xy = λ e. h .y-side (ap (bit c) (sym e) ∙ h .x-side);
-        xz = λ e. h .z-side (ap (bit c) (sym e) ∙ h .x-side);
-        yz = h .yz;
-      };
+          record {
+            wx = h .ax;
+            wy = λ e. h .y-side (ap (bit c) (sym e));
+            wz = λ e. h .z-side (ap (bit c) (sym e));
+            xy = λ e. h .y-side (ap (bit c) (sym e) ∙ h .x-side);
+            xz = λ e. h .z-side (ap (bit c) (sym e) ∙ h .x-side);
+            yz = h .yz;
+          };
     }

@@ -1,6 +1,6 @@
 -- `table::binomial` meets its contract. The loop has C(p,i), and goes on by (q + 1) C(p,q+1) = C(p,q) (p - q). Assumes nothing.
+use Prim.Native.Nat.{_*_, _-_, _^_, _≤_}
 use native.Mathlib.Numerals.{add-one}
-use Prim.Native.Nat.{_+_, _*_, _-_, _/_, _^_, _≤_}
 use native.Mathlib.Omega.{arith}
 use mathlib.Core.Path.{_≡_, refl, sym}
 use borrow.Author.Needs.{needs}

@@ -1,6 +1,6 @@
 -- `table::lowest_above_three` meets its contract: the lowest place of what remains is that of the whole. Assumes nothing.
+use Prim.Native.Nat.{suc, _-_, _≤_}
 use native.Mathlib.Nat.{sub-zero}
-use Prim.Native.Nat.{ℕ, suc, _+_, _-_, _≤_}
 use native.Mathlib.Omega.{arith}
 use native.Mathlib.Numerals.{add-one}
 use mathlib.Core.Path.{_≡_, refl, sym, _∙_}

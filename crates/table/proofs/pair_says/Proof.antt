@@ -17,18 +17,16 @@ abbrev μ-loop : tie.MeasureT-loop
 μ-loop n bytes k a c w x best₀ y₀ best y = k - y
 
 returns : tie.Need-returns Inv-loop μ-loop
-returns c = let s = c .before .before in sym (pair-self (s .args .bytes .now) (s .args .k) (s .args .a) (s .args .c) (s .args .w) (s .args .x) (c .if1 .taken))
+returns c = sym (pair-self _ _ _ _ _ _ (c .if1 .taken))
 
 same-side-requires : tie.Need-same-side-requires Inv-loop μ-loop
 same-side-requires c κs = search needs
 
 returns-2 : tie.Need-returns-2 Inv-loop μ-loop
-returns-2 c =
-    let s = c .before .before .before .before in
-    sym (pair-off (s .args .bytes .now) (s .args .k) (s .args .a) (s .args .c) (s .args .w) (s .args .x) (off-side _ _ (c .before .same-side .ensures) (not-true _ (c .if2 .taken))))
+returns-2 c = sym (pair-off _ _ _ _ _ _ (off-side _ _ (c .before .same-side .ensures) (not-true _ (c .if2 .taken))))
 
 loop-holds : tie.Need-loop-holds Inv-loop μ-loop
-loop-holds c = let s = c .before .before .before .before in (omega arith, lesser-none (s .args .w) (threeSays (s .args .bytes .now) (s .args .k) (s .args .a) (s .args .c) (s .args .w) (s .args .x)))
+loop-holds c = (omega arith, lesser-none _ _)
 
 three-says-requires : tie.Need-three-says-requires Inv-loop μ-loop
 three-says-requires c κs =
@@ -46,9 +44,8 @@ loop-less c = search needs
 
 loop-again : tie.Need-loop-again Inv-loop μ-loop
 loop-again c =
-    let s = c .before .before .before .before .before .before .before .before in
     let l = c .before .before .before .loop in
-    (omega arith, lesser-turn (s .args .w) (threeSays (s .args .bytes .now) (s .args .k) (s .args .a) (s .args .c) (s .args .w) (s .args .x)) (l .y) (c .lesser-of .ensures) (c .before .three-says .ensures) (l .inv .1))
+    (omega arith, lesser-turn _ _ (l .y) (c .lesser-of .ensures) (c .before .three-says .ensures) (l .inv .1))
 
 returns-3 : tie.Need-returns-3 Inv-loop μ-loop
 unfolding pairSays

@@ -1,7 +1,7 @@
 -- `table::place_of` meets its contract: each C(p,q) is at most 64 to the q, so the sums fit. Assumes nothing.
 use native.Mathlib.Omega.{arith}
-use Rattle.table.proofs.Choose.{choose-most}
 use borrow.Author.Needs.{needs}
+use Rattle.table.proofs.Choose.{choose-most}
 use Rattle.table.proofs.place_of.Statement.{statement}
 use Rattle.table.proofs.place_of.Tie as tie
 

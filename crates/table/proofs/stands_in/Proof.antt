@@ -1,7 +1,7 @@
 -- `table::stands_in` meets its contract: four different taxa, once in order, are two in-order pairs. Assumes nothing.
 use native.Mathlib.Omega.{arith}
-use Rattle.table.proofs.Standing.{in-order, stands-so, stands-turned, other-pair}
 use borrow.Author.Needs.{needs}
+use Rattle.table.proofs.Standing.{in-order, stands-so, stands-turned, other-pair}
 use Rattle.table.proofs.stands_in.Statement.{statement}
 use Rattle.table.proofs.stands_in.Tie as tie
 
@@ -14,22 +14,22 @@ sorted-requires-2 c κs = search needs
 ordered-stands-requires : tie.Need-ordered-stands-requires
 ordered-stands-requires c κs =
     let s = c .before .before .before .before .before .before in
-    (s .pre .0, s .pre .1, in-order (s .args .n) (s .args .w) (s .args .x) (s .args .y) (s .args .z) (c .before .before .before .before .sorted .ensures) (c .before .before .before .sorted2 .ensures) (s .pre .2) (omega arith))
+    (s .pre .0, s .pre .1, in-order _ _ _ _ _ (c .before .before .before .before .sorted .ensures) (c .before .before .before .sorted2 .ensures) (s .pre .2) (omega arith))
 
 returns : tie.Need-returns
 returns c =
-    let s = c .before .before .before .before .before .before .before in
-    stands-so (s .args .n) (s .args .w) (s .args .x) (s .args .y) (s .args .z) (c .before .before .before .before .before .sorted .ensures) (c .before .before .before .before .sorted2 .ensures) (s .args .bytes .now) (omega arith) (c .ordered-stands .ensures)
+    let s = c .before .before .before .before .before .before .before .args in
+    stands-so (s .n) (s .w) (s .x) (s .y) (s .z) (c .before .before .before .before .before .sorted .ensures) (c .before .before .before .before .sorted2 .ensures) (s .bytes .now) (omega arith) (c .ordered-stands .ensures)
 
 ordered-stands-requires-2 : tie.Need-ordered-stands-requires-2
 ordered-stands-requires-2 c κs =
     let s = c .before .before .before .before .before .before in
-    (s .pre .0, s .pre .1, in-order (s .args .n) (s .args .y) (s .args .z) (s .args .w) (s .args .x) (c .before .before .before .sorted2 .ensures) (c .before .before .before .before .sorted .ensures) (other-pair (s .pre .2)) (omega arith))
+    (s .pre .0, s .pre .1, in-order _ _ _ _ _ (c .before .before .before .sorted2 .ensures) (c .before .before .before .before .sorted .ensures) (other-pair (s .pre .2)) (omega arith))
 
 returns-2 : tie.Need-returns-2
 returns-2 c =
-    let s = c .before .before .before .before .before .before .before in
-    stands-turned (s .args .n) (s .args .w) (s .args .x) (s .args .y) (s .args .z) (c .before .before .before .before .before .sorted .ensures) (c .before .before .before .before .sorted2 .ensures) (s .args .bytes .now) (omega arith) (c .ordered-stands2 .ensures)
+    let s = c .before .before .before .before .before .before .before .args in
+    stands-turned (s .n) (s .w) (s .x) (s .y) (s .z) (c .before .before .before .before .before .sorted .ensures) (c .before .before .before .before .sorted2 .ensures) (s .bytes .now) (omega arith) (c .ordered-stands2 .ensures)
 
 pub stands-in-spec : {M : Type 1} → statement M
 stands-in-spec =

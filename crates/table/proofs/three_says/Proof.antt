@@ -19,12 +19,10 @@ same-side-requires : tie.Need-same-side-requires Inv-loop μ-loop
 same-side-requires c κs = search needs
 
 returns : tie.Need-returns Inv-loop μ-loop
-returns c =
-    let s = c .before .before .before in
-    sym (three-off (s .args .bytes .now) (s .args .k) (s .args .a) (s .args .c) (s .args .w) (s .args .x) (s .args .y) (on-side _ _ (c .before .same-side .ensures) (c .if1 .taken)))
+returns c = sym (three-off _ _ _ _ _ _ _ (on-side _ _ (c .before .same-side .ensures) (c .if1 .taken)))
 
 loop-holds : tie.Need-loop-holds Inv-loop μ-loop
-loop-holds c = let s = c .before .before .before in (omega arith, lesser-none (s .args .w) (fourSays (s .args .bytes .now) (s .args .a) (s .args .c) (s .args .w) (s .args .x) (s .args .y)))
+loop-holds c = (omega arith, lesser-none _ _)
 
 four-says-requires : tie.Need-four-says-requires Inv-loop μ-loop
 four-says-requires c κs =
@@ -42,9 +40,8 @@ loop-less c = search needs
 
 loop-again : tie.Need-loop-again Inv-loop μ-loop
 loop-again c =
-    let s = c .before .before .before .before .before .before .before in
     let l = c .before .before .before .loop in
-    (omega arith, lesser-turn (s .args .w) (fourSays (s .args .bytes .now) (s .args .a) (s .args .c) (s .args .w) (s .args .x) (s .args .y)) (l .z) (c .lesser-of .ensures) (c .before .four-says .ensures) (l .inv .1))
+    (omega arith, lesser-turn _ _ (l .z) (c .lesser-of .ensures) (c .before .four-says .ensures) (l .inv .1))
 
 returns-2 : tie.Need-returns-2 Inv-loop μ-loop
 unfolding threeSays

@@ -16,7 +16,7 @@ abbrev μ-loop : tie.MeasureT-loop
 μ-loop n bytes k a c w best₀ x₀ best x = k - x
 
 loop-holds : tie.Need-loop-holds Inv-loop μ-loop
-loop-holds c = let s = c .before in (omega arith, lesser-none (s .args .w) (pairSays (s .args .bytes .now) (s .args .k) (s .args .a) (s .args .c) (s .args .w)))
+loop-holds c = (omega arith, lesser-none _ _)
 
 pair-says-requires : tie.Need-pair-says-requires Inv-loop μ-loop
 pair-says-requires c κs = search needs
@@ -32,9 +32,8 @@ loop-less c = search needs
 
 loop-again : tie.Need-loop-again Inv-loop μ-loop
 loop-again c =
-    let s = c .before .before .before .before .before in
     let l = c .before .before .before .loop in
-    (omega arith, lesser-turn (s .args .w) (pairSays (s .args .bytes .now) (s .args .k) (s .args .a) (s .args .c) (s .args .w)) (l .x) (c .lesser-of .ensures) (c .before .pair-says .ensures) (l .inv .1))
+    (omega arith, lesser-turn _ _ (l .x) (c .lesser-of .ensures) (c .before .pair-says .ensures) (l .inv .1))
 
 returns : tie.Need-returns Inv-loop μ-loop
 unfolding tableTrial overFours pairSays threeSays fourSays
