@@ -96,7 +96,8 @@ pub record Asked (c a x y z : ℕ) : Type 0 where
   pub y-side : bit c y ≢ bit c a
   pub z-side : bit c z ≢ bit c a
 
-pub four-asked : (bytes : List ℕ) (a c w x y z : ℕ) (s : Bool) {r : Bool} → Asked c a x y z → r ≡ stands bytes a x y z → r ≡ s → cond s 1 0 ≡ fourSays bytes a c w x y z
+pub four-asked : (bytes : List ℕ) (a c w x y z : ℕ) (s : Bool) {r : Bool} → Asked c a x y z
+    → r ≡ stands bytes a x y z → r ≡ s → cond s 1 0 ≡ fourSays bytes a c w x y z
 unfolding fourSays
 four-asked bytes a c w x y z s h e t =
     rw (

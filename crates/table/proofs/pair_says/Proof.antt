@@ -30,8 +30,17 @@ loop-holds c = (omega arith, lesser-none _ _)
 
 three-says-requires : tie.Need-three-says-requires Inv-loop μ-loop
 three-says-requires c κs =
-    let s = c .before .before .before .before .before .before in
-    (s .pre .0, s .pre .1, s .pre .2, s .pre .3, s .pre .4, omega arith, c .before .before .before .before .if1 .left, on-side _ _ (c .before .before .before .same-side .ensures) (not-false _ (c .before .before .if2 .left)))
+    let e = c .before .before in
+    let s = e .before .before .before .before in (
+      s .pre .0,
+      s .pre .1,
+      s .pre .2,
+      s .pre .3,
+      s .pre .4,
+      omega arith,
+      e .before .before .if1 .left,
+      on-side _ _ (e .before .same-side .ensures) (not-false _ (e .if2 .left)),
+    )
 
 lesser-of-requires : tie.Need-lesser-of-requires Inv-loop μ-loop
 lesser-of-requires c κs = search needs

@@ -26,8 +26,18 @@ loop-holds c = (omega arith, lesser-none _ _)
 
 four-says-requires : tie.Need-four-says-requires Inv-loop μ-loop
 four-says-requires c κs =
-    let s = c .before .before .before .before .before in
-    (s .pre .0, s .pre .1, omega arith, omega arith, omega arith, omega arith, s .pre .6, s .pre .7, off-side _ _ (c .before .before .before .same-side .ensures) (c .before .before .if1 .left))
+    let e = c .before .before in
+    let s = e .before .before .before in (
+      s .pre .0,
+      s .pre .1,
+      omega arith,
+      omega arith,
+      omega arith,
+      omega arith,
+      s .pre .6,
+      s .pre .7,
+      off-side _ _ (e .before .same-side .ensures) (e .if1 .left),
+    )
 
 lesser-of-requires : tie.Need-lesser-of-requires Inv-loop μ-loop
 lesser-of-requires c κs = search needs
