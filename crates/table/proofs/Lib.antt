@@ -1,0 +1,4 @@
+pub mod Choose
+pub mod Refused
+pub mod Standing
+pub mod Said

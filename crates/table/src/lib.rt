@@ -1,0 +1,210 @@
+// The table of resolved fours: its own checks, what it says of a pairing, and the trial of a split by its fours (document 01, "Table rule",
+// "Growing and the allowance", "Refusal numbers"). The table is lent as its bytes, one for each four of n taxa.
+use statement::Outcome;
+ghost use mathlib.Core.Path.{_≡_};
+ghost use mathlib.Core.Logic.{_≢_};
+ghost use Prim.Native.Nat.{_≤_, _<_, min};
+ghost use lib.Dec.{eqb};
+ghost use lib.ListN.{length, getD};
+ghost use Rattle.statement.specs.Cluster.{bit};
+ghost use Rattle.statement.specs.Table.{choose, place, ordered, stands};
+ghost use Rattle.statement.specs.Lowest.{lowest};
+ghost use Rattle.statement.specs.Refusals.{outcomeOf, byteOff, tableChecks};
+ghost use Rattle.statement.specs.Growing.{tableTrial};
+ghost use Rattle.table.specs.Four.{Different, Sorted, InOrder};
+ghost use Rattle.table.specs.Says.{fourSays, threeSays, pairSays};
+
+// C(p,q), which is 0 if p < q.
+fn binomial(p: usize, q: usize) -> usize
+    requires { ⌜ (p ≤ 64) × (q ≤ 4) ⌝ }
+    ensures { λ r. ⌜ r ≡ choose p q ⌝ }
+{
+    if p < q {
+        return 0;
+    }
+    let mut r: usize = 1;
+    let mut i: usize = 0;
+    while i < q {
+        r = r * (p - i) / (i + 1);
+        i += 1;
+    }
+    r
+}
+
+// How many fours n taxa have: the length of their table.
+pub fn fours(n: usize) -> usize
+    requires { ⌜ n ≤ 64 ⌝ }
+    ensures { λ r. ⌜ r ≡ choose n 4 ⌝ }
+{
+    binomial(n, 4)
+}
+
+// The lowest place of a byte above 3, or the length where there is none.
+fn lowest_above_three(bytes: &[u8]) -> usize
+    ensures { λ r. ⌜ r ≡ lowest (byteOff (now (bytes .entry)) .bad) (length (now (bytes .entry))) ⌝ }
+{
+    let mut at: usize = 0;
+    while at < bytes.len() {
+        if 3 < bytes[at] {
+            return at;
+        }
+        at += 1;
+    }
+    at
+}
+
+// The table's own checks: 1, 2, 6.
+pub fn check(n: usize, bytes: &[u8]) -> Outcome
+    ensures { λ r. ⌜ r ≡ outcomeOf (tableChecks n (now (bytes .entry))) ⌝ }
+{
+    if n < 2 {
+        return Outcome::Refused(1, 0);
+    }
+    if 64 < n {
+        return Outcome::Refused(1, 0);
+    }
+    if bytes.len() != fours(n) {
+        return Outcome::Refused(2, 0);
+    }
+    let place = lowest_above_three(bytes);
+    if place < bytes.len() {
+        return Outcome::Refused(6, place);
+    }
+    Outcome::Done
+}
+
+// The place of the four a<b<c<d.
+fn place_of(a: usize, b: usize, c: usize, d: usize) -> usize
+    requires { ⌜ (a < b) × (b < c) × (c < d) × (d < 64) ⌝ }
+    ensures { λ r. ⌜ r ≡ place a b c d ⌝ }
+{
+    a + binomial(b, 2) + binomial(c, 3) + binomial(d, 4)
+}
+
+// Whether wx|yz stands in the table, for w<x, y<z and w<y.
+fn ordered_stands(n: usize, bytes: &[u8], w: usize, x: usize, y: usize, z: usize) -> bool
+    requires { ⌜ (n ≤ 64) × (length (now bytes) ≡ choose n 4) × InOrder n w x y z ⌝ }
+    ensures { λ r. ⌜ r ≡ eqb (getD (now (bytes .entry)) (ordered w x y z .place) 0) (ordered w x y z .byte) ⌝ }
+{
+    if x < y {
+        let p = place_of(w, x, y, z);
+        return bytes[p] == 1;
+    }
+    if x < z {
+        let p = place_of(w, y, x, z);
+        return bytes[p] == 2;
+    }
+    let p = place_of(w, y, z, x);
+    bytes[p] == 3
+}
+
+// Two taxa, the lower first.
+struct Pair {
+    low: usize,
+    high: usize,
+}
+
+fn sorted(w: usize, x: usize) -> Pair
+    ensures { λ r. ⌜ Sorted w x (r .low) (r .high) ⌝ }
+{
+    if w < x {
+        return Pair { low: w, high: x };
+    }
+    Pair { low: x, high: w }
+}
+
+// Whether wx|yz stands in the table, for four different taxa in any order.
+pub fn stands_in(n: usize, bytes: &[u8], w: usize, x: usize, y: usize, z: usize) -> bool
+    requires { ⌜ (n ≤ 64) × (length (now bytes) ≡ choose n 4) × Different n w x y z ⌝ }
+    ensures { λ r. ⌜ r ≡ stands (now (bytes .entry)) w x y z ⌝ }
+{
+    let p = sorted(w, x);
+    let q = sorted(y, z);
+    if p.low < q.low {
+        return ordered_stands(n, bytes, p.low, p.high, q.low, q.high);
+    }
+    ordered_stands(n, bytes, q.low, q.high, p.low, p.high)
+}
+
+// Whether i is on a's side of the split c.
+fn same_side(c: u64, a: usize, i: usize) -> bool
+    requires { ⌜ (a < 64) × (i < 64) ⌝ }
+    ensures { λ r. ⌜ r ≡ eqb (bit c i) (bit c a) ⌝ }
+{
+    (c >> i) % 2 == (c >> a) % 2
+}
+
+// The lesser of two weights.
+fn lesser_of(v: u32, w: u32) -> u32
+    ensures { λ r. ⌜ r ≡ min v w ⌝ }
+{
+    if v < w { v } else { w }
+}
+
+// What the four ax|yz says, where x is on a's side and y is not: only four different taxa count.
+fn four_says(n: usize, bytes: &[u8], a: usize, c: u64, w: u32, x: usize, y: usize, z: usize) -> u32
+    requires { ⌜ (n ≤ 64) × (length (now bytes) ≡ choose n 4) × (a < n) × (x < n) × (y < n) × (z < n) × (a ≢ x) × (bit c x ≡ bit c a) × (bit c y ≢ bit c a) ⌝ }
+    ensures { λ r. ⌜ r ≡ fourSays (now (bytes .entry)) a c w x y z ⌝ }
+{
+    if same_side(c, a, z) {
+        return w;
+    }
+    if y == z {
+        return w;
+    }
+    if stands_in(n, bytes, a, x, y, z) {
+        return 1;
+    }
+    0
+}
+
+// The lesser of w and what the fours of a, x and y say, where x is on a's side.
+fn three_says(n: usize, bytes: &[u8], k: usize, a: usize, c: u64, w: u32, x: usize, y: usize) -> u32
+    requires { ⌜ (n ≤ 64) × (length (now bytes) ≡ choose n 4) × (k ≤ n) × (a < k) × (x < k) × (y < k) × (a ≢ x) × (bit c x ≡ bit c a) ⌝ }
+    ensures { λ r. ⌜ r ≡ threeSays (now (bytes .entry)) k a c w x y ⌝ }
+{
+    if same_side(c, a, y) {
+        return w;
+    }
+    let mut best = w;
+    let mut z: usize = 0;
+    while z < k {
+        best = lesser_of(four_says(n, bytes, a, c, w, x, y, z), best);
+        z += 1;
+    }
+    best
+}
+
+// The lesser of w and what the fours of a and x say.
+fn pair_says(n: usize, bytes: &[u8], k: usize, a: usize, c: u64, w: u32, x: usize) -> u32
+    requires { ⌜ (n ≤ 64) × (length (now bytes) ≡ choose n 4) × (k ≤ n) × (a < k) × (x < k) ⌝ }
+    ensures { λ r. ⌜ r ≡ pairSays (now (bytes .entry)) k a c w x ⌝ }
+{
+    if a == x {
+        return w;
+    }
+    if !same_side(c, a, x) {
+        return w;
+    }
+    let mut best = w;
+    let mut y: usize = 0;
+    while y < k {
+        best = lesser_of(three_says(n, bytes, k, a, c, w, x, y), best);
+        y += 1;
+    }
+    best
+}
+
+// The trial of the split c of the first k taxa by its fours ax|yz that include the taxon a: the lesser of w and what they say.
+pub fn trial(n: usize, bytes: &[u8], k: usize, a: usize, c: u64, w: u32) -> u32
+    requires { ⌜ (n ≤ 64) × (length (now bytes) ≡ choose n 4) × (k ≤ n) × (a < k) ⌝ }
+    ensures { λ r. ⌜ r ≡ tableTrial (now (bytes .entry)) k a c w ⌝ }
+{
+    let mut best = w;
+    let mut x: usize = 0;
+    while x < k {
+        best = lesser_of(pair_says(n, bytes, k, a, c, w, x), best);
+        x += 1;
+    }
+    best
+}
