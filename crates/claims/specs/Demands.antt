@@ -4,18 +4,15 @@ use mathlib.Core.Path.{_≡_}
 use mathlib.Core.Logic.{_≢_, _↔_}
 use mathlib.Core.Bool.{Bool, true, not, Bool·beq}
 use mathlib.Core.List.{List}
-use lib.ListN.{length}
-use lib.IntN.{pos, negℤ}
-use lib.Signed.{_≤ℤ_, _<ℤ_}
-use Rattle.statement.specs.declared.Splits.{Splits}
+use lib.IntN.{pos}
+use lib.Signed.{_<ℤ_}
 use Rattle.statement.specs.declared.Growth.{Growth}
 use Rattle.statement.specs.declared.Outcome.{Outcome}
-use Rattle.statement.specs.declared.Outcome.the-variants.{Done, Short, Refused}
+use Rattle.statement.specs.declared.Outcome.the-variants.{Done, Refused}
 use Rattle.statement.specs.Cluster.{groupOf, Conflict}
-use Rattle.statement.specs.Matrix.{distance, score, weightLimit, AcceptedMatrix, MatrixWeight}
-use Rattle.statement.specs.Table.{stands, tableWeight, AcceptedTable}
-use Rattle.statement.specs.Rows.{clusters, Listed, weightIn, Ascending, rowsOf, WellFormed}
-use Rattle.statement.specs.Growing.{MatrixGrowth, TableGrowth}
+use Rattle.statement.specs.Matrix.{distance, score, MatrixWeight}
+use Rattle.statement.specs.Table.{stands, tableWeight}
+use Rattle.statement.specs.Rows.{clusters, Listed, weightIn, Ascending, rowsOf}
 use Rattle.statement.specs.Tree.{root, treeOf, walk}
 use Rattle.statement.specs.Refusals.{Check, Given}
 
@@ -69,6 +66,11 @@ TableWeights reply = (c : ℕ) → Listed c (rowsOf (reply .list)) → weightIn 
 -- DEMAND 1: a reply is refused with a number at a place exactly when the table of refusals says so
 abbrev pub ExactlyWhen : Outcome → List Check → Type 0
 ExactlyWhen outcome checks = (number place : ℕ) → (outcome ≡ Refused number place) ↔ Given checks number place
+
+-- and a refused reply is the one listed: a run hands back an empty list with k = 0 and 0 trials, growth the given list and 0 trials, a tree reading
+-- an empty list with k = 0
+abbrev pub RefusedIs : {A : Type 0} → (A → Outcome) → A → (Outcome → A) → Type 0
+RefusedIs outcomeIn reply listed = (number place : ℕ) → outcomeIn reply ≡ Refused number place → reply ≡ listed (Refused number place)
 
 -- "No refusal alters a lent buffer": where the outcome is a refusal, what the buffer holds afterwards is what it held before
 abbrev pub Unaltered : Outcome → List ℕ → List ℕ → Type 0

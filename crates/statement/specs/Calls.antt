@@ -66,10 +66,13 @@ unfoldable pub treeWritten : ℕ → Splits → List ℕ → List ℕ
 treeWritten n s out = unlessRefused (writeTree n s out) out (treeBody (treeOf n (rowsOf s)))
 
 -- a tree read. A refused reading hands back an empty list with k = 0
+abbrev pub refusedReading : Outcome → Reading
+refusedReading o = record { outcome = o; list = emptyList 0 }
+
 unfoldable pub readTree : ℕ → List ℕ → Reading
 readTree n body =
     let o = outcomeOf (treeChecks n body) in
-    unlessRefused o (record { outcome = o; list = emptyList 0 }) (record { outcome = Done; list = listOf n (rowsOfTree n (treeIn n body)) })
+    unlessRefused o (refusedReading o) (record { outcome = Done; list = listOf n (rowsOfTree n (treeIn n body)) })
 
 -- PATH SUMS into a lent slice of n by n
 unfoldable pub sumPaths : ℕ → Splits → List ℕ → Outcome
