@@ -6,13 +6,14 @@ use mathlib.Core.Bool.{Bool, true, not, Bool·beq}
 use mathlib.Core.List.{List}
 use lib.IntN.{pos}
 use lib.Signed.{_<ℤ_}
+use Rattle.statement.specs.declared.Splits.{Splits}
 use Rattle.statement.specs.declared.Growth.{Growth}
 use Rattle.statement.specs.declared.Outcome.{Outcome}
 use Rattle.statement.specs.declared.Outcome.the-variants.{Done, Refused}
 use Rattle.statement.specs.Cluster.{groupOf, Conflict}
 use Rattle.statement.specs.Matrix.{distance, score, MatrixWeight}
 use Rattle.statement.specs.Table.{stands, tableWeight}
-use Rattle.statement.specs.Rows.{clusters, Listed, weightIn, Ascending, rowsOf}
+use Rattle.statement.specs.Rows.{Row, clusters, Listed, weightIn, Ascending, rowsOf, WellFormed}
 use Rattle.statement.specs.Tree.{root, treeOf, walk}
 use Rattle.statement.specs.Refusals.{Check, Given}
 
@@ -75,3 +76,11 @@ RefusedIs outcomeIn reply listed = (number place : ℕ) → outcomeIn reply ≡ 
 -- "No refusal alters a lent buffer": where the outcome is a refusal, what the buffer holds afterwards is what it held before
 abbrev pub Unaltered : Outcome → List ℕ → List ℕ → Type 0
 Unaltered outcome before after = (number place : ℕ) → outcome ≡ Refused number place → after ≡ before
+
+-- GROWTH BY ONE TAXON, of any well-formed list s to the list larger: it keeps the growth rule, is well-formed again, and where s was the full answer
+-- for its taxa, larger is that for one more
+pub record Grows (Rule : List Row → List Row → Type 0) (Answer : ℕ → List Row → Type 0) (most n : ℕ) (s larger : Splits) : Type 0 where
+  pub taxa : larger .taxa ≡ suc (s .taxa)
+  pub rule : Rule (rowsOf s) (rowsOf larger)
+  pub well : WellFormed most n larger
+  pub answer : Answer (s .taxa) (rowsOf s) → Answer (suc (s .taxa)) (rowsOf larger)
