@@ -1,0 +1,6 @@
+-- The root of the proofs.
+pub mod Outcome
+pub mod Search
+pub mod Entries
+pub mod Signs
+pub mod Lesser

@@ -1,0 +1,62 @@
+use Rattle.matrix.proofs.Search.{begun, found, not-here, ended}
+use Rattle.matrix.proofs.Search.{found, not-here, ended}
+use Prim.Native.Nat.{suc, _*_, _-_, _≤_}
+use native.Mathlib.Omega.{arith}
+use mathlib.Core.Path.{_≡_, refl, sym, _∙_, ap, ap₂}
+use Rattle.statement.specs.Lowest.{lowestFrom, lowest}
+use Rattle.matrix.specs.Entries.{entryCheck}
+use Rattle.statement.proofs.Lowest.{lowest-here, lowest-next, lowest-end}
+use borrow.Author.Needs.{needs}
+use Rattle.matrix.proofs.first.Statement.{statement}
+use Rattle.matrix.proofs.first.Tie as tie
+use Rattle.matrix.proofs.first.Reads as reads
+use Rattle.matrix.proofs.first.Lts as lts
+use Rattle.matrix.proofs.bad.Reads as bad-reads
+
+abbrev Inv-loop : tie.InvT-loop
+Inv-loop number n entries e₀ e =
+    (e ≤ n * n) × (lowestFrom (entryCheck number n entries .bad) e (n * n - e) ≡ lowest (entryCheck number n entries .bad) (n * n))
+
+abbrev μ-loop : tie.MeasureT-loop
+μ-loop number n entries e₀ e = n * n - e
+
+loop-holds : tie.Need-loop-holds Inv-loop μ-loop
+loop-holds c = (omega arith, begun _ _)
+
+mul-loop : tie.Need-mul-loop Inv-loop μ-loop
+mul-loop c = search needs
+
+bad-requires : tie.Need-bad-requires Inv-loop μ-loop
+bad-requires c κs = search needs
+
+returns : tie.Need-returns Inv-loop μ-loop
+returns c = let l = c .before .before .before .loop in sym (found _ _ _ (c .before .before .loop-test .taken) (sym (c .before .bad .ensures) ∙ c .if1 .taken)) ∙ l .inv .1
+
+add-e : tie.Need-add-e Inv-loop μ-loop
+add-e c = search needs
+
+loop-less : tie.Need-loop-less Inv-loop μ-loop
+loop-less c = search needs
+
+loop-again : tie.Need-loop-again Inv-loop μ-loop
+loop-again c = 
+    let l = c .before .before .before .loop in
+    (omega arith, sym (not-here _ _ _ (c .before .before .loop-test .taken) (sym (c .before .bad .ensures) ∙ c .if1 .left)) ∙ l .inv .1)
+
+returns-2 : tie.Need-returns-2 Inv-loop μ-loop
+returns-2 c = let l = c .before .loop in sym (ended _ _ _ (c .loop-test .left)) ∙ l .inv .1
+
+pub first-spec : {M : Type 1} → statement M
+first-spec =
+    tie.close
+    (tie.spec
+    Inv-loop
+    μ-loop
+    loop-holds
+    mul-loop
+    bad-requires
+    returns
+    add-e
+    loop-less
+    loop-again
+    returns-2)
