@@ -5,9 +5,6 @@ use Rattle.matrix.proofs.Entries.{row-lt, column-lt}
 use borrow.Author.Needs.{needs}
 use Rattle.matrix.proofs.bad.Statement.{statement}
 use Rattle.matrix.proofs.bad.Tie as tie
-use Rattle.matrix.proofs.bad.Reads as reads
-use Rattle.matrix.proofs.bad.Lts as lts
-use Rattle.matrix.proofs.between.Reads as between-reads
 
 div-i : tie.Need-div-i
 div-i c = search needs
@@ -25,33 +22,33 @@ cast-entry : tie.Need-cast-entry
 cast-entry c = omega (arith, c .shared-slice-known2 .given (c .before .before .args .e))
 
 returns : tie.Need-returns
-returns c = 
+returns c =
     let a = c .before .before .before .before .args in
     rw (eq-eqb (a .number) 3 (c .before .if1 .taken), eq-eqb (a .e / a .n) (a .e % a .n) (c .if2 .taken))
 
 returns-2 : tie.Need-returns-2
-returns-2 c = 
+returns-2 c =
     let a = c .before .before .before .before .args in
     rw (eq-eqb (a .number) 3 (c .before .if1 .taken), ne-eqb (a .e / a .n) (a .e % a .n) (c .if2 .left))
 
 returns-3 : tie.Need-returns-3
-returns-3 c = 
+returns-3 c =
     let a = c .before .before .before .before .args in
     rw (ne-eqb (a .number) 3 (c .before .if1 .left), eq-eqb (a .number) 4 (c .if3 .taken))
 
 between-requires : tie.Need-between-requires
-between-requires c κs = 
+between-requires c κs =
     let s = c .before .before .before .before .before in
     let a = s .args in
     (s .pre .0, column-lt (a .n) (a .e) (s .pre .1), row-lt (a .n) (a .e) (s .pre .1) (s .pre .2))
 
 returns-4 : tie.Need-returns-4
-returns-4 c = 
+returns-4 c =
     let a = c .before .before .before .before .before .before .args in
     rw (c .between .ensures .0, ne-eqb (a .number) 3 (c .before .before .before .if1 .left), ne-eqb (a .number) 4 (c .before .before .if3 .left), lt-ltb (a .e / a .n) (a .e % a .n) (c .before .if4 .taken))
 
 returns-5 : tie.Need-returns-5
-returns-5 c = 
+returns-5 c =
     let a = c .before .before .before .before .before .args in
     rw (ne-eqb (a .number) 3 (c .before .before .if1 .left), ne-eqb (a .number) 4 (c .before .if3 .left), le-ltb (a .e / a .n) (a .e % a .n) (c .if4 .left))
 

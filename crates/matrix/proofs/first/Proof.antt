@@ -9,9 +9,6 @@ use Rattle.statement.proofs.Lowest.{lowest-here, lowest-next, lowest-end}
 use borrow.Author.Needs.{needs}
 use Rattle.matrix.proofs.first.Statement.{statement}
 use Rattle.matrix.proofs.first.Tie as tie
-use Rattle.matrix.proofs.first.Reads as reads
-use Rattle.matrix.proofs.first.Lts as lts
-use Rattle.matrix.proofs.bad.Reads as bad-reads
 
 abbrev Inv-loop : tie.InvT-loop
 Inv-loop number n entries e₀ e =
@@ -39,7 +36,7 @@ loop-less : tie.Need-loop-less Inv-loop μ-loop
 loop-less c = search needs
 
 loop-again : tie.Need-loop-again Inv-loop μ-loop
-loop-again c = 
+loop-again c =
     let l = c .before .before .before .loop in
     (omega arith, sym (not-here _ _ _ (c .before .before .loop-test .taken) (sym (c .before .bad .ensures) ∙ c .if1 .left)) ∙ l .inv .1)
 

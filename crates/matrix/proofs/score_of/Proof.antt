@@ -60,7 +60,7 @@ returns c =
     toZ-ofZ w64 _ (sub-result c)
     ∙ difference _ _ (small c .0) (small c .1)
     ∙ score-is (distance (a .n) (a .entries .now)) (a .w) (a .x) (a .y) (a .z) (xz-wy .before .between .ensures .0) (xz-wy .between2 .ensures .0)
-        (xy-wz .before .between3 .ensures .0) (xy-wz .between4 .ensures .0) (c .before .before .between5 .ensures .0) (c .before .between6 .ensures .0) (c .least .ensures)
+    (xy-wz .before .between3 .ensures .0) (xy-wz .between4 .ensures .0) (c .before .before .between5 .ensures .0) (c .before .between6 .ensures .0) (c .least .ensures)
 
 pub score-of-spec : {M : Type 1} → statement M
 score-of-spec =
