@@ -4,3 +4,4 @@ pub mod Search
 pub mod Entries
 pub mod Signs
 pub mod Lesser
+pub mod Fours

@@ -106,14 +106,14 @@ fn supports(score: i64) -> bool
 }
 
 // The lesser of a weight and one more score; 0 where the score does not support.
-fn lowered(best: u32, one: i64) -> u32
-    ensures { λ r. ⌜ r ≡ min (above one) best ⌝ }
+fn lowered(best: u32, score: i64) -> u32
+    ensures { λ r. ⌜ r ≡ min (above score) best ⌝ }
 {
-    if one >= best as i64 {
+    if score >= best as i64 {
         return best;
     }
-    if supports(one) {
-        return one as u32;
+    if supports(score) {
+        return score as u32;
     }
     0
 }

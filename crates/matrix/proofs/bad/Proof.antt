@@ -1,8 +1,9 @@
+-- `matrix::bad` meets its contract, by the number of the check and its tests. Assumes nothing.
 use Prim.Native.Nat.{_/_, _%_}
 use native.Mathlib.Omega.{arith}
+use borrow.Author.Needs.{needs}
 use borrow.Author.Tests.{eq-eqb, ne-eqb, lt-ltb, le-ltb}
 use Rattle.matrix.proofs.Entries.{row-lt, column-lt}
-use borrow.Author.Needs.{needs}
 use Rattle.matrix.proofs.bad.Statement.{statement}
 use Rattle.matrix.proofs.bad.Tie as tie
 

@@ -4,10 +4,10 @@ use native.Mathlib.Nat.{mul-le-mul}
 use native.Mathlib.Omega.{arith}
 use mathlib.Core.Path.{_≡_, sym, _∙_}
 use mathlib.Core.Logic.{inl, inr, ⊎-elim}
-use mathlib.Core.List.{[], _∷_}
+use mathlib.Core.List.{List, [], _∷_}
 use borrow.Author.Needs.{needs}
 use borrow.Author.Tests.{ltb-true, ltb-false}
-use Rattle.statement.specs.Refusals.{outcomeOf, matrixChecks, entryChecks, diagonalOff, distanceOff, pairOff}
+use Rattle.statement.specs.Refusals.{Check, outcomeOf, matrixChecks, entryChecks, diagonalOff, distanceOff, pairOff}
 use Rattle.matrix.proofs.Outcome.{refused, passed, outcome-none}
 use Rattle.matrix.proofs.Entries.{taxa-refused, length-refused, to-entries}
 use Rattle.matrix.proofs.check.Statement.{statement}
@@ -17,22 +17,25 @@ few : (c : tie.Else2) → c .before .before .before .args .n ≤ 64
 few c = ltb-false 64 (c .before .before .before .args .n) (c .if2 .left)
 
 -- what is left to say after each check that passed
-past-length : (c : tie.Else3) → let a = c .before .before .before .before .args in outcomeOf (matrixChecks (a .n) (a .entries .now)) ≡ outcomeOf (entryChecks (a .n) (a .entries .now))
+abbrev Left : tie.Start → List Check → Type 0
+Left s checks = outcomeOf (matrixChecks (s .args .n) (s .args .entries .now)) ≡ outcomeOf checks
+
+past-length : (c : tie.Else3) → let s = c .before .before .before .before in Left s (entryChecks (s .args .n) (s .args .entries .now))
 past-length c =
     let a = c .before .before .before .before .args in
     to-entries (a .n) (a .entries .now) (c .before .before .if1 .left) (few (c .before)) (c .if3 .left)
 
-past-diagonal : (c : tie.Else4) → let a = c .before .before .before .before .before .before .args in outcomeOf (matrixChecks (a .n) (a .entries .now)) ≡ outcomeOf (distanceOff (a .n) (a .entries .now) ∷ pairOff (a .n) (a .entries .now) ∷ [])
+past-diagonal : (c : tie.Else4) → let s = c .before .before .before .before .before .before in Left s (distanceOff (s .args .n) (s .args .entries .now) ∷ pairOff (s .args .n) (s .args .entries .now) ∷ [])
 past-diagonal c =
-    let first = c .before in
-    let a = first .before .before .before .before .before .args in
-    past-length (first .before) ∙ passed (diagonalOff (a .n) (a .entries .now)) _ _ (first .first .ensures) (c .if4 .left)
+    let looked = c .before in
+    let a = looked .before .before .before .before .before .args in
+    past-length (looked .before) ∙ passed (diagonalOff (a .n) (a .entries .now)) _ _ (looked .first .ensures) (c .if4 .left)
 
-past-distance : (c : tie.Else5) → let a = c .before .before .before .before .before .before .before .before .args in outcomeOf (matrixChecks (a .n) (a .entries .now)) ≡ outcomeOf (pairOff (a .n) (a .entries .now) ∷ [])
+past-distance : (c : tie.Else5) → let s = c .before .before .before .before .before .before .before .before in Left s (pairOff (s .args .n) (s .args .entries .now) ∷ [])
 past-distance c =
-    let first = c .before in
-    let a = first .before .before .before .before .before .before .before .args in
-    past-diagonal (first .before) ∙ passed (distanceOff (a .n) (a .entries .now)) _ _ (first .first2 .ensures) (c .if5 .left)
+    let looked = c .before in
+    let a = looked .before .before .before .before .before .before .before .args in
+    past-diagonal (looked .before) ∙ passed (distanceOff (a .n) (a .entries .now)) _ _ (looked .first2 .ensures) (c .if5 .left)
 
 returns : tie.Need-returns
 returns c =
@@ -55,9 +58,9 @@ mul-if4 c = search needs
 
 returns-3 : tie.Need-returns-3
 returns-3 c =
-    let first = c .before in
-    let a = first .before .before .before .before .before .args in
-    sym (past-length (first .before) ∙ refused (diagonalOff (a .n) (a .entries .now)) _ _ (first .first .ensures) (c .if4 .taken))
+    let looked = c .before in
+    let a = looked .before .before .before .before .before .args in
+    sym (past-length (looked .before) ∙ refused (diagonalOff (a .n) (a .entries .now)) _ _ (looked .first .ensures) (c .if4 .taken))
 
 first-requires-2 : tie.Need-first-requires-2
 first-requires-2 c κs = search needs
@@ -67,9 +70,9 @@ mul-if5 c = search needs
 
 returns-4 : tie.Need-returns-4
 returns-4 c =
-    let first = c .before in
-    let a = first .before .before .before .before .before .before .before .args in
-    sym (past-diagonal (first .before) ∙ refused (distanceOff (a .n) (a .entries .now)) _ _ (first .first2 .ensures) (c .if5 .taken))
+    let looked = c .before in
+    let a = looked .before .before .before .before .before .before .before .args in
+    sym (past-diagonal (looked .before) ∙ refused (distanceOff (a .n) (a .entries .now)) _ _ (looked .first2 .ensures) (c .if5 .taken))
 
 first-requires-3 : tie.Need-first-requires-3
 first-requires-3 c κs = search needs
@@ -79,15 +82,15 @@ mul-if6 c = search needs
 
 returns-5 : tie.Need-returns-5
 returns-5 c =
-    let first = c .before in
-    let a = first .before .before .before .before .before .before .before .before .before .args in
-    sym (past-distance (first .before) ∙ refused (pairOff (a .n) (a .entries .now)) _ _ (first .first3 .ensures) (c .if6 .taken))
+    let looked = c .before in
+    let a = looked .before .before .before .before .before .before .before .before .before .args in
+    sym (past-distance (looked .before) ∙ refused (pairOff (a .n) (a .entries .now)) _ _ (looked .first3 .ensures) (c .if6 .taken))
 
 returns-6 : tie.Need-returns-6
 returns-6 c =
-    let first = c .before in
-    let a = first .before .before .before .before .before .before .before .before .before .args in
-    sym (past-distance (first .before) ∙ passed (pairOff (a .n) (a .entries .now)) _ _ (first .first3 .ensures) (c .if6 .left) ∙ outcome-none)
+    let looked = c .before in
+    let a = looked .before .before .before .before .before .before .before .before .before .args in
+    sym (past-distance (looked .before) ∙ passed (pairOff (a .n) (a .entries .now)) _ _ (looked .first3 .ensures) (c .if6 .left) ∙ outcome-none)
 
 pub check-spec : {M : Type 1} → statement M
 check-spec =

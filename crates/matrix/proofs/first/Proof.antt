@@ -1,12 +1,11 @@
-use Rattle.matrix.proofs.Search.{begun, found, not-here, ended}
-use Rattle.matrix.proofs.Search.{found, not-here, ended}
-use Prim.Native.Nat.{suc, _*_, _-_, _≤_}
+-- `matrix::first` meets its contract. The loop's invariant: the lowest of the entries that remain is the lowest of all. Assumes nothing.
+use Prim.Native.Nat.{_*_, _-_, _≤_}
 use native.Mathlib.Omega.{arith}
-use mathlib.Core.Path.{_≡_, refl, sym, _∙_, ap, ap₂}
+use mathlib.Core.Path.{_≡_, sym, _∙_}
+use borrow.Author.Needs.{needs}
 use Rattle.statement.specs.Lowest.{lowestFrom, lowest}
 use Rattle.matrix.specs.Entries.{entryCheck}
-use Rattle.statement.proofs.Lowest.{lowest-here, lowest-next, lowest-end}
-use borrow.Author.Needs.{needs}
+use Rattle.matrix.proofs.Search.{begun, found, not-here, ended}
 use Rattle.matrix.proofs.first.Statement.{statement}
 use Rattle.matrix.proofs.first.Tie as tie
 
@@ -27,7 +26,9 @@ bad-requires : tie.Need-bad-requires Inv-loop μ-loop
 bad-requires c κs = search needs
 
 returns : tie.Need-returns Inv-loop μ-loop
-returns c = let l = c .before .before .before .loop in sym (found _ _ _ (c .before .before .loop-test .taken) (sym (c .before .bad .ensures) ∙ c .if1 .taken)) ∙ l .inv .1
+returns c =
+    let called = c .before in
+    sym (found _ _ _ (called .before .loop-test .taken) (sym (called .bad .ensures) ∙ c .if1 .taken)) ∙ called .before .before .loop .inv .1
 
 add-e : tie.Need-add-e Inv-loop μ-loop
 add-e c = search needs
@@ -37,11 +38,11 @@ loop-less c = search needs
 
 loop-again : tie.Need-loop-again Inv-loop μ-loop
 loop-again c =
-    let l = c .before .before .before .loop in
-    (omega arith, sym (not-here _ _ _ (c .before .before .loop-test .taken) (sym (c .before .bad .ensures) ∙ c .if1 .left)) ∙ l .inv .1)
+    let called = c .before in
+    (omega arith, sym (not-here _ _ _ (called .before .loop-test .taken) (sym (called .bad .ensures) ∙ c .if1 .left)) ∙ called .before .before .loop .inv .1)
 
 returns-2 : tie.Need-returns-2 Inv-loop μ-loop
-returns-2 c = let l = c .before .loop in sym (ended _ _ _ (c .loop-test .left)) ∙ l .inv .1
+returns-2 c = sym (ended _ _ _ (c .loop-test .left)) ∙ c .before .loop .inv .1
 
 pub first-spec : {M : Type 1} → statement M
 first-spec =

@@ -7,7 +7,8 @@ use borrow.Author.Tests.{not-true, not-false}
 use Rattle.statement.specs.Matrix.{distance}
 use Rattle.statement.specs.Growing.{lesser}
 use Rattle.matrix.specs.Fours.{foursWithXY}
-use Rattle.matrix.proofs.Lesser.{lesser-none, lesser-same, lesser-turn, xy-from, skip-x}
+use Rattle.matrix.proofs.Lesser.{lesser-none}
+use Rattle.matrix.proofs.Fours.{skip-x, y-turn}
 use Rattle.matrix.proofs.fours_with_x.Statement.{statement}
 use Rattle.matrix.proofs.fours_with_x.Tie as tie
 
@@ -23,8 +24,7 @@ same-side-requires c κs = search needs
 returns : tie.Need-returns Inv-loop μ-loop
 returns c =
     let a = c .before .before .before .args in
-    let e = sym (c .before .same-side .ensures) ∙ not-true _ (c .if1 .taken) in
-    sym (lesser-same _ _ _ (λ y. lesser-same _ _ _ (λ z. skip-x (distance (a .n) (a .entries .now)) (a .a) (a .c) (a .w) (a .x) y z e)))
+    skip-x (distance (a .n) (a .entries .now)) (a .a) (a .c) (a .w) (a .x) (a .k) (sym (c .before .same-side .ensures) ∙ not-true _ (c .if1 .taken))
 
 loop-holds : tie.Need-loop-holds Inv-loop μ-loop
 loop-holds c = (omega arith, lesser-none _ _)
@@ -44,7 +44,7 @@ loop-again : tie.Need-loop-again Inv-loop μ-loop
 loop-again c =
     let l = c .before .before .loop in
     let a = c .before .before .before .before .before .before .args in
-    (omega arith, lesser-turn _ _ (l .y) (l .best) _ (l .inv .1) (λ h. c .fours-with-xy .ensures ∙ xy-from (distance (a .n) (a .entries .now)) (a .k) (a .a) (a .c) (a .w) (l .best) h (a .x) (l .y)))
+    (omega arith, y-turn (distance (a .n) (a .entries .now)) (a .k) (a .a) (a .c) (a .w) (a .x) _ _ (l .y) (l .inv .1) (c .fours-with-xy .ensures))
 
 returns-2 : tie.Need-returns-2 Inv-loop μ-loop
 returns-2 c =

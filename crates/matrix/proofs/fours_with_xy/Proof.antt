@@ -6,7 +6,8 @@ use borrow.Author.Needs.{needs}
 use Rattle.statement.specs.Matrix.{distance}
 use Rattle.statement.specs.Growing.{lesser}
 use Rattle.matrix.specs.Fours.{fourWith}
-use Rattle.matrix.proofs.Lesser.{lesser-none, lesser-same, lesser-turn, four-from, skip-y}
+use Rattle.matrix.proofs.Lesser.{lesser-none}
+use Rattle.matrix.proofs.Fours.{skip-y, z-turn}
 use Rattle.matrix.proofs.fours_with_xy.Statement.{statement}
 use Rattle.matrix.proofs.fours_with_xy.Tie as tie
 
@@ -23,9 +24,7 @@ returns : tie.Need-returns Inv-loop μ-loop
 returns c =
     let s = c .before .before .before in
     let a = s .args in
-    sym
-    (lesser-same _ _ _
-    (λ z. skip-y (distance (a .n) (a .entries .now)) (a .a) (a .c) (a .w) (a .x) (a .y) z (s .pre .1) (sym (c .before .same-side .ensures) ∙ c .if1 .taken)))
+    skip-y (distance (a .n) (a .entries .now)) (a .a) (a .c) (a .w) (a .x) (s .pre .1) (a .y) (a .k) (sym (c .before .same-side .ensures) ∙ c .if1 .taken)
 
 loop-holds : tie.Need-loop-holds Inv-loop μ-loop
 loop-holds c = (omega arith, lesser-none _ _)
@@ -45,7 +44,7 @@ loop-again : tie.Need-loop-again Inv-loop μ-loop
 loop-again c =
     let l = c .before .before .loop in
     let a = c .before .before .before .before .before .before .args in
-    (omega arith, lesser-turn _ _ (l .z) (l .best) _ (l .inv .1) (λ h. c .four .ensures ∙ four-from (distance (a .n) (a .entries .now)) (a .k) (a .a) (a .c) (a .w) (l .best) h (a .x) (a .y) (l .z)))
+    (omega arith, z-turn (distance (a .n) (a .entries .now)) (a .k) (a .a) (a .c) (a .w) (a .x) _ _ (a .y) (l .z) (l .inv .1) (c .four .ensures))
 
 returns-2 : tie.Need-returns-2 Inv-loop μ-loop
 returns-2 c =

@@ -1,12 +1,13 @@
 -- `matrix::trial` meets its contract. The loop's invariant: the weight is lowered by the fours with an x passed. Assumes nothing.
 use Prim.Native.Nat.{_-_, _≤_}
 use native.Mathlib.Omega.{arith}
-use mathlib.Core.Path.{_≡_, _∙_}
+use mathlib.Core.Path.{_≡_}
 use borrow.Author.Needs.{needs}
 use Rattle.statement.specs.Matrix.{distance}
 use Rattle.statement.specs.Growing.{lesser, overFours, matrixTrial}
 use Rattle.matrix.specs.Fours.{foursWithX}
-use Rattle.matrix.proofs.Lesser.{lesser-none, lesser-turn, x-from}
+use Rattle.matrix.proofs.Lesser.{lesser-none}
+use Rattle.matrix.proofs.Fours.{x-turn}
 use Rattle.matrix.proofs.trial.Statement.{statement}
 use Rattle.matrix.proofs.trial.Tie as tie
 
@@ -32,7 +33,7 @@ loop-again : tie.Need-loop-again Inv-loop μ-loop
 loop-again c =
     let l = c .before .before .loop in
     let a = c .before .before .before .before .args in
-    (omega arith, lesser-turn _ _ (l .x) (l .best) _ (l .inv .1) (λ h. c .fours-with-x .ensures ∙ x-from (distance (a .n) (a .entries .now)) (a .k) (a .a) (a .c) (a .w) (l .best) h (l .x)))
+    (omega arith, x-turn (distance (a .n) (a .entries .now)) (a .k) (a .a) (a .c) (a .w) (l .x) _ _ (l .inv .1) (c .fours-with-x .ensures))
 
 returns : tie.Need-returns Inv-loop μ-loop
 unfolding matrixTrial overFours
