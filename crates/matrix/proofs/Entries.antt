@@ -1,8 +1,7 @@
 -- Laws of a matrix's entries and of its checks. Assumes nothing.
-use Prim.Native.Nat.{ℕ, _+_, _*_, _/_, _%_, _≤_, _<_}
-use native.Mathlib.Nat.{mul-le-mul, mod-lt, div-lt-iff-lt-mul}
-use native.Mathlib.Omega.{arith}
-use mathlib.Core.Path.{_≡_, refl, sym, _∙_}
+use Prim.Native.Nat.{ℕ, _+_, _*_, _≤_, _<_}
+use native.Mathlib.Nat.{mul-le-mul}
+use mathlib.Core.Path.{_≡_, refl, _∙_}
 use mathlib.Core.Logic.{_⊎_, inl, inr}
 use mathlib.Core.Bool.{Bool, true, false, not, _||_}
 use mathlib.Core.List.{List, _∷_}
@@ -18,13 +17,6 @@ use Rattle.matrix.proofs.Outcome.{refused-single, passed-single}
 -- the entry for two taxa is in the matrix, which is small
 pub within : (n i j : ℕ) {es : List ℕ} → Square n es → i < n → j < n → (i * n + j < n * n) × (n * n ≤ 4096)
 within n i j s hi hj = (digits-lt hi hj, mul-le-mul (s .few) (s .few))
-
--- the two taxa of an entry
-pub row-lt : (n e : ℕ) → 0 < n → e < n * n → e / n < n
-row-lt n e p h = div-lt-iff-lt-mul p .1 h
-
-pub column-lt : (n e : ℕ) → 0 < n → e % n < n
-column-lt n e p = mod-lt e p
 
 -- what the checks of n and of the length say
 module _ (n : ℕ) (es : List ℕ) where

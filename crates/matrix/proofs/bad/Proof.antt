@@ -1,9 +1,9 @@
 -- `matrix::bad` meets its contract, by the number of the check and its tests. Assumes nothing.
 use Prim.Native.Nat.{_/_, _%_}
+use native.Mathlib.Nat.{mod-lt, div-lt-iff-lt-mul}
 use native.Mathlib.Omega.{arith}
 use borrow.Author.Needs.{needs}
 use borrow.Author.Tests.{eq-eqb, ne-eqb, lt-ltb, le-ltb}
-use Rattle.matrix.proofs.Entries.{row-lt, column-lt}
 use Rattle.matrix.proofs.bad.Statement.{statement}
 use Rattle.matrix.proofs.bad.Tie as tie
 
@@ -40,8 +40,7 @@ returns-3 c =
 between-requires : tie.Need-between-requires
 between-requires c κs =
     let s = c .before .before .before .before .before in
-    let a = s .args in
-    (s .pre .0, column-lt (a .n) (a .e) (s .pre .1), row-lt (a .n) (a .e) (s .pre .1) (s .pre .2))
+    (s .pre .0, mod-lt (s .args .e) (s .pre .1), div-lt-iff-lt-mul (s .pre .1) .1 (s .pre .2))
 
 returns-4 : tie.Need-returns-4
 returns-4 c =
