@@ -25,8 +25,8 @@ module _ (d : ℕ → ℕ → ℕ) (a c w x : ℕ) where
       pub skip-z : eqb (bit c z) (bit c a) ≡ true → w ≡ min (fourWith d a c w x y z) w
       skip-z g = rw (e, f, g) (omega arith)
 
-      pub asked : eqb (bit c z) (bit c a) ≡ false → (s : ℤ) → s ≡ score d a x y z → min (above s) w ≡ min (fourWith d a c w x y z) w
-      asked g s h = rw (e, f, g) (ap (λ (v : ℤ). min (above v) w) h)
+      pub asked : eqb (bit c z) (bit c a) ≡ false → (r : ℕ) (s : ℤ) → r ≡ min (above s) w → s ≡ score d a x y z → r ≡ min (fourWith d a c w x y z) w
+      asked g r s q h = rw (e, f, g) (q ∙ ap (λ (v : ℤ). min (above v) w) h)
 
 module _ (d : ℕ → ℕ → ℕ) (k a c w x : ℕ) where
   -- to start from a lesser weight b is to take the lesser of b too
@@ -44,11 +44,14 @@ module _ (d : ℕ → ℕ → ℕ) (k a c w x : ℕ) where
     x-from : foursWithX d k a c b x ≡ min (foursWithX d k a c w x) b
     x-from = lesser-from w b (foursWithXY d k a c w x) (foursWithXY d k a c b x) k h (λ y. omega (arith, xy-from y))
 
+  -- low is the least so far, next what the turn makes of it
   module _ (low next : ℕ) where
-    pub z-turn : (y z : ℕ) → low ≡ lesser w (fourWith d a c w x y) z → next ≡ min (fourWith d a c low x y z) low → next ≡ lesser w (fourWith d a c w x y) (z + 1)
+    pub z-turn : (y z : ℕ) → low ≡ lesser w (fourWith d a c w x y) z → next ≡ min (fourWith d a c low x y z) low
+        → next ≡ lesser w (fourWith d a c w x y) (z + 1)
     z-turn y z e f = lesser-turn w (fourWith d a c w x y) z low next e (λ h. f ∙ four-from low h y z)
 
-    pub y-turn : (y : ℕ) → low ≡ lesser w (foursWithXY d k a c w x) y → next ≡ foursWithXY d k a c low x y → next ≡ lesser w (foursWithXY d k a c w x) (y + 1)
+    pub y-turn : (y : ℕ) → low ≡ lesser w (foursWithXY d k a c w x) y → next ≡ foursWithXY d k a c low x y
+        → next ≡ lesser w (foursWithXY d k a c w x) (y + 1)
     y-turn y e f = lesser-turn w (foursWithXY d k a c w x) y low next e (λ h. f ∙ xy-from low h y)
 
     pub x-turn : low ≡ lesser w (foursWithX d k a c w) x → next ≡ foursWithX d k a c low x → next ≡ lesser w (foursWithX d k a c w) (x + 1)

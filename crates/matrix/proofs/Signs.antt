@@ -1,5 +1,5 @@
 -- The signed score: one difference of two sums, and its sign. Assumes nothing.
-use Prim.Native.Nat.{ℕ, zero, suc, _+_, _-_, _^_, _≤_, _<_, min}
+use Prim.Native.Nat.{ℕ, zero, suc, _+_, _-_, _^_, _<_, min}
 use native.Mathlib.Omega.{arith}
 use mathlib.Core.Path.{_≡_, refl, sym, _∙_, ap, ap₂, subst}
 use mathlib.Core.Bool.{Bool, true, false, cond, true≢false}
@@ -7,9 +7,9 @@ use lib.Dec.{T, ltb}
 use lib.IntN.{ℤ, pos, negsuc, natAbs, subℕ, _-ℤ_}
 use lib.Signed.{ltZ, leZ, nonNeg}
 use mir.Syntax.{w64}
-use mir.Val.{SFits, toZ, ofZ}
+use mir.Val.{SFits, toZ}
 use mir.ValLaws.{toZ-ofZ}
-use borrow.Author.Tests.{ltb-true, ltb-false, leb-true, leb-false, le-ltb}
+use borrow.Author.Tests.{ltb-false, leb-true, leb-false, le-ltb}
 use Rattle.statement.specs.Matrix.{score}
 use Rattle.statement.specs.Growing.{above}
 

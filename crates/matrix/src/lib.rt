@@ -1,7 +1,7 @@
 // A distance matrix, n by n, row by row: its checks, the score of a pairing, and the trial of a split over the fours that hold one taxon.
 // Document 01, "Scores and splits", "Growing and the allowance" and "Refusal numbers".
 use statement::Outcome;
-ghost use Prim.Native.Nat.{ℕ, _+_, _*_, _^_, _≤_, _<_, min};
+ghost use Prim.Native.Nat.{_*_, _^_, _≤_, _<_, min};
 ghost use mathlib.Core.Path.{_≡_};
 ghost use mathlib.Core.Bool.{true, false};
 ghost use lib.Dec.{eqb};
@@ -16,7 +16,7 @@ ghost use Rattle.matrix.specs.Square.{Square};
 ghost use Rattle.matrix.specs.Entries.{entryCheck};
 ghost use Rattle.matrix.specs.Fours.{fourWith, foursWithXY, foursWithX};
 
-// The distance of two taxa.
+// Matrix: the distance of two taxa.
 fn between(n: usize, entries: &[u32], i: usize, j: usize) -> u64
     requires { ⌜ Square n (now entries) × (i < n) × (j < n) ⌝ }
     ensures { λ r. ⌜ (r ≡ distance n (now (entries .entry)) i j) × (r < 2 ^ 32) ⌝ }
@@ -81,6 +81,7 @@ pub fn check(n: usize, entries: &[u32]) -> Outcome
     Outcome::Done
 }
 
+// The lesser of two sums.
 fn least(p: u64, q: u64) -> u64
     ensures { λ r. ⌜ r ≡ min p q ⌝ }
 {

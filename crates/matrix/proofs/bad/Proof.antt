@@ -45,12 +45,22 @@ between-requires c κs =
 returns-4 : tie.Need-returns-4
 returns-4 c =
     let a = c .before .before .before .before .before .before .args in
-    rw (c .between .ensures .0, ne-eqb (a .number) 3 (c .before .before .before .if1 .left), ne-eqb (a .number) 4 (c .before .before .if3 .left), lt-ltb (a .e / a .n) (a .e % a .n) (c .before .if4 .taken))
+    let upper = c .before in
+    rw (
+      c .between .ensures .0,
+      ne-eqb (a .number) 3 (upper .before .before .if1 .left),
+      ne-eqb (a .number) 4 (upper .before .if3 .left),
+      lt-ltb (a .e / a .n) (a .e % a .n) (upper .if4 .taken),
+    )
 
 returns-5 : tie.Need-returns-5
 returns-5 c =
     let a = c .before .before .before .before .before .args in
-    rw (ne-eqb (a .number) 3 (c .before .before .if1 .left), ne-eqb (a .number) 4 (c .before .if3 .left), le-ltb (a .e / a .n) (a .e % a .n) (c .if4 .left))
+    rw (
+      ne-eqb (a .number) 3 (c .before .before .if1 .left),
+      ne-eqb (a .number) 4 (c .before .if3 .left),
+      le-ltb (a .e / a .n) (a .e % a .n) (c .if4 .left),
+    )
 
 pub bad-spec : {M : Type 1} → statement M
 bad-spec =

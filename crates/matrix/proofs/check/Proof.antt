@@ -1,5 +1,5 @@
 -- `matrix::check` meets its contract, one check after the other. Assumes nothing.
-use Prim.Native.Nat.{_≤_}
+use Prim.Native.Nat.{ℕ, _≤_}
 use native.Mathlib.Nat.{mul-le-mul}
 use native.Mathlib.Omega.{arith}
 use mathlib.Core.Path.{_≡_, sym, _∙_}
@@ -17,21 +17,21 @@ few : (c : tie.Else2) → c .before .before .before .args .n ≤ 64
 few c = ltb-false 64 (c .before .before .before .args .n) (c .if2 .left)
 
 -- what is left to say after each check that passed
-abbrev Left : tie.Start → List Check → Type 0
-Left s checks = outcomeOf (matrixChecks (s .args .n) (s .args .entries .now)) ≡ outcomeOf checks
+abbrev Left : tie.Start → (ℕ → List ℕ → List Check) → Type 0
+Left s checks = outcomeOf (matrixChecks (s .args .n) (s .args .entries .now)) ≡ outcomeOf (checks (s .args .n) (s .args .entries .now))
 
-past-length : (c : tie.Else3) → let s = c .before .before .before .before in Left s (entryChecks (s .args .n) (s .args .entries .now))
+past-length : (c : tie.Else3) → Left (c .before .before .before .before) entryChecks
 past-length c =
     let a = c .before .before .before .before .args in
     to-entries (a .n) (a .entries .now) (c .before .before .if1 .left) (few (c .before)) (c .if3 .left)
 
-past-diagonal : (c : tie.Else4) → let s = c .before .before .before .before .before .before in Left s (distanceOff (s .args .n) (s .args .entries .now) ∷ pairOff (s .args .n) (s .args .entries .now) ∷ [])
+past-diagonal : (c : tie.Else4) → Left (c .before .before .before .before .before .before) (λ n es. distanceOff n es ∷ pairOff n es ∷ [])
 past-diagonal c =
     let looked = c .before in
     let a = looked .before .before .before .before .before .args in
     past-length (looked .before) ∙ passed (diagonalOff (a .n) (a .entries .now)) _ _ (looked .first .ensures) (c .if4 .left)
 
-past-distance : (c : tie.Else5) → let s = c .before .before .before .before .before .before .before .before in Left s (pairOff (s .args .n) (s .args .entries .now) ∷ [])
+past-distance : (c : tie.Else5) → Left (c .before .before .before .before .before .before .before .before) (λ n es. pairOff n es ∷ [])
 past-distance c =
     let looked = c .before in
     let a = looked .before .before .before .before .before .before .before .args in

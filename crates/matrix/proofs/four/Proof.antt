@@ -30,10 +30,9 @@ returns-2 c =
     let other = scored .before in
     let s = other .before .before .before in
     let a = s .args in
-    c .lowered .ensures
-    ∙ asked (distance (a .n) (a .entries .now)) (a .a) (a .c) (a .best) (a .x) (s .pre .1 .0) (a .y) (s .pre .1 .1) (a .z)
+    asked (distance (a .n) (a .entries .now)) (a .a) (a .c) (a .best) (a .x) (s .pre .1 .0) (a .y) (s .pre .1 .1) (a .z)
     (sym (other .before .same-side .ensures) ∙ other .if1 .left)
-    _
+    _ _ (c .lowered .ensures)
     (toZ-ofZ w64 _ (sfits-of (scored .score-of .ok)) ∙ scored .score-of .ensures)
 
 pub four-spec : {M : Type 1} → statement M
