@@ -1,0 +1,82 @@
+-- `matrix::score_of` meets its contract: three sums below 2 ^ 33, and one exact difference. Assumes nothing.
+use Prim.Native.Nat.{_+_, _^_, _<_}
+use native.Mathlib.Omega.{arith}
+use mathlib.Core.Path.{_∙_}
+use mir.Syntax.{w64}
+use mir.ValLaws.{toZ-ofZ}
+use borrow.Author.Needs.{needs}
+use Rattle.statement.specs.Matrix.{distance}
+use Rattle.matrix.proofs.Signs.{difference, difference-fits, score-is}
+use Rattle.matrix.proofs.score_of.Statement.{statement}
+use Rattle.matrix.proofs.score_of.Tie as tie
+
+between-requires : tie.Need-between-requires
+between-requires c κs = search needs
+
+between-requires-2 : tie.Need-between-requires-2
+between-requires-2 c κs = search needs
+
+add-wy-xz : tie.Need-add-wy-xz
+add-wy-xz c = search needs
+
+between-requires-3 : tie.Need-between-requires-3
+between-requires-3 c κs = search needs
+
+between-requires-4 : tie.Need-between-requires-4
+between-requires-4 c κs = search needs
+
+add-wz-xy : tie.Need-add-wz-xy
+add-wz-xy c = search needs
+
+between-requires-5 : tie.Need-between-requires-5
+between-requires-5 c κs = search needs
+
+between-requires-6 : tie.Need-between-requires-6
+between-requires-6 c κs = search needs
+
+add-wx-yz : tie.Need-add-wx-yz
+add-wx-yz c = search needs
+
+least-requires : tie.Need-least-requires
+least-requires c κs = search needs
+
+cast-result : tie.Need-cast-result
+cast-result c = search needs
+
+cast-result-2 : tie.Need-cast-result-2
+cast-result-2 c = search needs
+
+small : (c : tie.After-least) → (c .least .result < 2 ^ 63) × (c .before .before .between5 .result + c .before .between6 .result < 2 ^ 63)
+small c = omega arith
+
+sub-result : tie.Need-sub-result
+sub-result c = difference-fits _ _ (small c .0) (small c .1)
+
+returns : tie.Need-returns
+returns c =
+    let xy-wz = c .before .before .before in
+    let xz-wy = xy-wz .before .before in
+    let a = xz-wy .before .before .before .args in
+    toZ-ofZ w64 _ (sub-result c)
+    ∙ difference _ _ (small c .0) (small c .1)
+    ∙ score-is (distance (a .n) (a .entries .now)) (a .w) (a .x) (a .y) (a .z) (xz-wy .before .between .ensures .0) (xz-wy .between2 .ensures .0)
+    (xy-wz .before .between3 .ensures .0) (xy-wz .between4 .ensures .0) (c .before .before .between5 .ensures .0) (c .before .between6 .ensures .0) (c .least .ensures)
+
+pub score-of-spec : {M : Type 1} → statement M
+score-of-spec =
+    tie.close
+    (tie.spec
+    between-requires
+    between-requires-2
+    add-wy-xz
+    between-requires-3
+    between-requires-4
+    add-wz-xy
+    between-requires-5
+    between-requires-6
+    add-wx-yz
+    least-requires
+    cast-result
+    cast-result-2
+    sub-result
+    returns)

@@ -1,0 +1,4 @@
+-- The root of the specs.
+pub mod Square
+pub mod Entries
+pub mod Fours

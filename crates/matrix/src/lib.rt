@@ -1,0 +1,198 @@
+// A distance matrix, n by n, row by row: its checks, the score of a pairing, and the trial of a split over the fours that hold one taxon.
+// Document 01, "Scores and splits", "Growing and the allowance" and "Refusal numbers".
+use statement::Outcome;
+ghost use Prim.Native.Nat.{_*_, _^_, _≤_, _<_, min};
+ghost use mathlib.Core.Path.{_≡_};
+ghost use mathlib.Core.Bool.{true, false};
+ghost use lib.Dec.{eqb};
+ghost use lib.IntN.{pos};
+ghost use lib.Signed.{ltZ};
+ghost use Rattle.statement.specs.Cluster.{bit};
+ghost use Rattle.statement.specs.Lowest.{lowest};
+ghost use Rattle.statement.specs.Matrix.{distance, score};
+ghost use Rattle.statement.specs.Growing.{above, matrixTrial};
+ghost use Rattle.statement.specs.Refusals.{outcomeOf, matrixChecks};
+ghost use Rattle.matrix.specs.Square.{Square};
+ghost use Rattle.matrix.specs.Entries.{entryCheck};
+ghost use Rattle.matrix.specs.Fours.{fourWith, foursWithXY, foursWithX};
+
+// Matrix: the distance of two taxa.
+fn between(n: usize, entries: &[u32], i: usize, j: usize) -> u64
+    requires { ⌜ Square n (now entries) × (i < n) × (j < n) ⌝ }
+    ensures { λ r. ⌜ (r ≡ distance n (now (entries .entry)) i j) × (r < 2 ^ 32) ⌝ }
+{
+    entries[i * n + j] as u64
+}
+
+// Whether entry e fails the check of this number: 3, the diagonal; 4, the limit; 5, the two entries of a pair.
+fn bad(number: u8, n: usize, entries: &[u32], e: usize) -> bool
+    requires { ⌜ Square n (now entries) × (0 < n) × (e < n * n) ⌝ }
+    ensures { λ r. ⌜ r ≡ entryCheck number n (now (entries .entry)) .bad e ⌝ }
+{
+    let i = e / n;
+    let j = e % n;
+    let entry = entries[e] as u64;
+    if number == 3 {
+        return i == j && entry != 0;
+    }
+    if number == 4 {
+        return entry > 1000000;
+    }
+    i < j && entry != between(n, entries, j, i)
+}
+
+// The lowest entry that fails the check of this number, else n * n.
+fn first(number: u8, n: usize, entries: &[u32]) -> usize
+    requires { ⌜ Square n (now entries) × (0 < n) ⌝ }
+    ensures { λ r. ⌜ r ≡ lowest (entryCheck number n (now (entries .entry)) .bad) (n * n) ⌝ }
+{
+    let mut e = 0;
+    while e < n * n {
+        if bad(number, n, entries, e) {
+            return e;
+        }
+        e += 1;
+    }
+    e
+}
+
+// Refusals 1 to 5 in their order, each over the whole input before the next.
+pub fn check(n: usize, entries: &[u32]) -> Outcome
+    ensures { λ r. ⌜ r ≡ outcomeOf (matrixChecks n (now (entries .entry))) ⌝ }
+{
+    if n < 2 || n > 64 {
+        return Outcome::Refused(1, 0);
+    }
+    if entries.len() != n * n {
+        return Outcome::Refused(2, 0);
+    }
+    let diagonal = first(3, n, entries);
+    if diagonal < n * n {
+        return Outcome::Refused(3, diagonal);
+    }
+    let high = first(4, n, entries);
+    if high < n * n {
+        return Outcome::Refused(4, high);
+    }
+    let pair = first(5, n, entries);
+    if pair < n * n {
+        return Outcome::Refused(5, pair);
+    }
+    Outcome::Done
+}
+
+// The lesser of two sums.
+fn least(p: u64, q: u64) -> u64
+    ensures { λ r. ⌜ r ≡ min p q ⌝ }
+{
+    if p <= q { p } else { q }
+}
+
+// Score: for a pairing wx|yz the lesser of wy + xz and wz + xy, less (wx + yz).
+pub fn score_of(n: usize, entries: &[u32], w: usize, x: usize, y: usize, z: usize) -> i64
+    requires { ⌜ Square n (now entries) × (w < n) × (x < n) × (y < n) × (z < n) ⌝ }
+    ensures { λ r. ⌜ r ≡ score (distance n (now (entries .entry))) w x y z ⌝ }
+{
+    let wy_xz = between(n, entries, w, y) + between(n, entries, x, z);
+    let wz_xy = between(n, entries, w, z) + between(n, entries, x, y);
+    let wx_yz = between(n, entries, w, x) + between(n, entries, y, z);
+    least(wy_xz, wz_xy) as i64 - wx_yz as i64
+}
+
+// Matrix rule: zero is not above zero, so a tie does not support.
+fn supports(score: i64) -> bool
+    ensures { λ r. ⌜ r ≡ ltZ (pos 0) score ⌝ }
+{
+    score > 0
+}
+
+// The lesser of a weight and one more score; 0 where the score does not support.
+fn lowered(best: u32, score: i64) -> u32
+    ensures { λ r. ⌜ r ≡ min (above score) best ⌝ }
+{
+    if score >= best as i64 {
+        return best;
+    }
+    if supports(score) {
+        return score as u32;
+    }
+    0
+}
+
+// Whether taxon i is on a's side of the split c.
+fn same_side(c: u64, a: usize, i: usize) -> bool
+    requires { ⌜ (a < 64) × (i < 64) ⌝ }
+    ensures { λ r. ⌜ r ≡ eqb (bit c i) (bit c a) ⌝ }
+{
+    (c >> i) % 2 == (c >> a) % 2
+}
+
+// A weight, lowered by the four ax|yz, where x is on a's side and y is on the other.
+fn four(n: usize, entries: &[u32], a: usize, c: u64, x: usize, y: usize, z: usize, best: u32) -> u32
+    requires { ⌜ Square n (now entries) × (a < n) × (x < n) × (y < n) × (z < n) ⌝ }
+    requires { ⌜ (eqb (bit c x) (bit c a) ≡ true) × (eqb (bit c y) (bit c a) ≡ false) ⌝ }
+    ensures { λ r. ⌜ r ≡ min (fourWith (distance n (now (entries .entry))) a c best x y z) best ⌝ }
+{
+    if same_side(c, a, z) {
+        return best;
+    }
+    lowered(best, score_of(n, entries, a, x, y, z))
+}
+
+// A weight, lowered by the fours ax|yz with this y and any z, where x is on a's side.
+fn fours_with_xy(
+    n: usize,
+    entries: &[u32],
+    k: usize,
+    a: usize,
+    c: u64,
+    w: u32,
+    x: usize,
+    y: usize,
+) -> u32
+    requires { ⌜ Square n (now entries) × (k ≤ n) × (a < k) × (x < k) × (y < k) ⌝ }
+    requires { ⌜ eqb (bit c x) (bit c a) ≡ true ⌝ }
+    ensures { λ r. ⌜ r ≡ foursWithXY (distance n (now (entries .entry))) k a c w x y ⌝ }
+{
+    if same_side(c, a, y) {
+        return w;
+    }
+    let mut best = w;
+    let mut z = 0;
+    while z < k {
+        best = four(n, entries, a, c, x, y, z, best);
+        z += 1;
+    }
+    best
+}
+
+// A weight, lowered by the fours ax|yz with this x and any y and z.
+fn fours_with_x(n: usize, entries: &[u32], k: usize, a: usize, c: u64, w: u32, x: usize) -> u32
+    requires { ⌜ Square n (now entries) × (k ≤ n) × (a < k) × (x < k) ⌝ }
+    ensures { λ r. ⌜ r ≡ foursWithX (distance n (now (entries .entry))) k a c w x ⌝ }
+{
+    if !same_side(c, a, x) {
+        return w;
+    }
+    let mut best = w;
+    let mut y = 0;
+    while y < k {
+        best = fours_with_xy(n, entries, k, a, c, best, x, y);
+        y += 1;
+    }
+    best
+}
+
+// A trial of the split c of the first k taxa, over its fours ax|yz: 0 where some score is zero or below, else the least of w and the scores.
+pub fn trial(n: usize, entries: &[u32], k: usize, a: usize, c: u64, w: u32) -> u32
+    requires { ⌜ Square n (now entries) × (k ≤ n) × (a < k) ⌝ }
+    ensures { λ r. ⌜ r ≡ matrixTrial (distance n (now (entries .entry))) k a c w ⌝ }
+{
+    let mut best = w;
+    let mut x = 0;
+    while x < k {
+        best = fours_with_x(n, entries, k, a, c, best, x);
+        x += 1;
+    }
+    best
+}
