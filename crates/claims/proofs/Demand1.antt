@@ -16,7 +16,7 @@ use Rattle.statement.specs.declared.Outcome.the-variants.{Done, Short, Refused}
 use Rattle.statement.specs.Matrix.{distance, weightLimit}
 use Rattle.statement.specs.Table.{tableWeight}
 use Rattle.statement.specs.Rows.{rowsOf, listOf}
-use Rattle.statement.specs.Growing.{matrixTrial, tableTrial, enlarged, cost, grown, wholeRun}
+use Rattle.statement.specs.Growing.{matrixTrial, tableTrial, larger, cost, grown, wholeRun}
 use Rattle.statement.specs.Tree.{treeOf, rowsOfTree, pathSums}
 use Rattle.statement.specs.Bytes.{treeBody, treeIn, treeLength}
 use Rattle.statement.specs.Refusals.{Check, outcomeOf, listOff, matrixChecks, tableChecks, treeChecks, outputChecks}
@@ -74,10 +74,10 @@ unfolding grown
 grown-not trial most zero left spent s = done-not
 grown-not trial most (suc f) left spent s =
     go (leb (cost (s .rows)) left)
-    (grown-not trial most f (left - cost (s .rows)) (spent + cost (s .rows)) (listOf (suc (s .taxa)) (enlarged trial most (s .taxa) (rowsOf s))))
+    (grown-not trial most f (left - cost (s .rows)) (spent + cost (s .rows)) (larger trial most s))
   where
-    go : (b : Bool) → NotRefused (grown trial most f (left - cost (s .rows)) (spent + cost (s .rows)) (listOf (suc (s .taxa)) (enlarged trial most (s .taxa) (rowsOf s))) .outcome)
-        → NotRefused (cond b (grown trial most f (left - cost (s .rows)) (spent + cost (s .rows)) (listOf (suc (s .taxa)) (enlarged trial most (s .taxa) (rowsOf s)))) (record { outcome = Short; list = s; trials = spent }) .outcome)
+    go : (b : Bool) → NotRefused (grown trial most f (left - cost (s .rows)) (spent + cost (s .rows)) (larger trial most s) .outcome)
+        → NotRefused (cond b (grown trial most f (left - cost (s .rows)) (spent + cost (s .rows)) (larger trial most s)) (record { outcome = Short; list = s; trials = spent }) .outcome)
     go true h = h
     go false h = short-not
 

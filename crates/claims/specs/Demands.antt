@@ -77,10 +77,10 @@ RefusedIs outcomeIn reply listed = (number place : ℕ) → outcomeIn reply ≡ 
 abbrev pub Unaltered : Outcome → List ℕ → List ℕ → Type 0
 Unaltered outcome before after = (number place : ℕ) → outcome ≡ Refused number place → after ≡ before
 
--- GROWTH BY ONE TAXON, of any well-formed list s to the list larger: it keeps the growth rule, is well-formed again, and where s was the full answer
--- for its taxa, larger is that for one more
-pub record Grows (Rule : List Row → List Row → Type 0) (Answer : ℕ → List Row → Type 0) (most n : ℕ) (s larger : Splits) : Type 0 where
-  pub taxa : larger .taxa ≡ suc (s .taxa)
-  pub rule : Rule (rowsOf s) (rowsOf larger)
-  pub well : WellFormed most n larger
-  pub answer : Answer (s .taxa) (rowsOf s) → Answer (suc (s .taxa)) (rowsOf larger)
+-- GROWTH BY ONE TAXON, of any well-formed list s to the list more: it keeps the growth rule, is well-formed again, and where s was the full answer
+-- for its taxa, it is that for one more
+pub record Grows (Rule : List Row → List Row → Type 0) (Answer : ℕ → List Row → Type 0) (most n : ℕ) (s more : Splits) : Type 0 where
+  pub taxa : more .taxa ≡ suc (s .taxa)
+  pub rule : Rule (rowsOf s) (rowsOf more)
+  pub well : WellFormed most n more
+  pub answer : Answer (s .taxa) (rowsOf s) → Answer (suc (s .taxa)) (rowsOf more)

@@ -11,7 +11,7 @@ use Rattle.statement.specs.declared.Splits.{Splits}
 use Rattle.statement.specs.declared.Growth.{Growth}
 use Rattle.statement.specs.declared.Outcome.the-variants.{Done, Short}
 use Rattle.statement.specs.Rows.{Row, clusters, weights, rowsOf, listOf, WellFormed}
-use Rattle.statement.specs.Growing.{enlarged, cost, grown, rowsAt, trialsAt, wholeRun}
+use Rattle.statement.specs.Growing.{enlarged, larger, cost, grown, rowsAt, trialsAt, wholeRun}
 use Rattle.statement.proofs.Rule.{Rule, Laws}
 use Rattle.statement.proofs.Answer.{Clean}
 use Rattle.statement.proofs.Full.{full-one, well-length}
@@ -62,12 +62,8 @@ module _ (r : Rule) (most : ℕ) (trial : ℕ → ℕ → ℕ → ℕ → ℕ) (
 
 -- GROWTH IS THE RUN, where the allowance covers it
 module _ (trial : ℕ → ℕ → ℕ → ℕ → ℕ) (most : ℕ) where
-  -- the list with one taxon more
-  abbrev pub next : Splits → Splits
-  next s = listOf (suc (s .taxa)) (enlarged trial most (s .taxa) (rowsOf s))
-
   pub grown-covered : (f left spent : ℕ) (s : Splits) → cost (s .rows) ≤ left
-      → grown trial most (suc f) left spent s ≡ grown trial most f (left - cost (s .rows)) (spent + cost (s .rows)) (next s)
+      → grown trial most (suc f) left spent s ≡ grown trial most f (left - cost (s .rows)) (spent + cost (s .rows)) (larger trial most s)
   unfolding grown
   grown-covered f left spent s h = rw (le-leb (cost (s .rows)) left h)
 
@@ -96,7 +92,7 @@ module _ (trial : ℕ → ℕ → ℕ → ℕ → ℕ) (most : ℕ) where
   unfolding here listOf
   here-cost k = refl
 
-  here-next : (k : ℕ) → next (here k) ≡ here (suc k)
+  here-next : (k : ℕ) → larger trial most (here k) ≡ here (suc k)
   unfolding here listOf
   here-next k = ap (listOf (suc (suc k))) (rows-next k)
 

@@ -64,11 +64,11 @@ unfoldable pub enlarged : (ℕ → ℕ → ℕ → ℕ → ℕ) → ℕ → ℕ 
 enlarged trial most k rows = kept (trial (suc k) k) (candidates most k rows)
 
 -- THE GROWTH RULE for a well-formed list: the enlarged one holds exactly the candidates whose fours that include the newcomer are all supported
-pub record GrowthRule (Supports : ℕ → ℕ → ℕ → ℕ → Type 0) (Weighs : ℕ → ℕ → Type 0) (most k : ℕ) (rows larger : List Row) : Type 0 where
-  pub up : Ascending 1 (2 ^ suc k) (clusters larger)
-  pub exact : (c : ℕ) → Listed c larger
+pub record GrowthRule (Supports : ℕ → ℕ → ℕ → ℕ → Type 0) (Weighs : ℕ → ℕ → Type 0) (most k : ℕ) (rows more : List Row) : Type 0 where
+  pub up : Ascending 1 (2 ^ suc k) (clusters more)
+  pub exact : (c : ℕ) → Listed c more
       ↔ (Listed c (candidates most k rows) × ((u u′ v v′ : ℕ) → Across (suc k) c u u′ v v′ → Includes k u u′ v v′ → Supports u u′ v v′))
-  pub weigh : (c : ℕ) → Listed c larger → Weighs c (weightIn larger c)
+  pub weigh : (c : ℕ) → Listed c more → Weighs c (weightIn more c)
 
 -- on a matrix the weight is the lesser of the old weight and those new scores (the newcomer alone has new scores only)
 pub record NewWeight (d : ℕ → ℕ → ℕ) (k : ℕ) (rows : List Row) (c w : ℕ) : Type 0 where
@@ -78,12 +78,12 @@ pub record NewWeight (d : ℕ → ℕ → ℕ) (k : ℕ) (rows : List Row) (c w 
       ⊎ ((u u′ v v′ : ℕ) × Across (suc k) c u u′ v v′ × Includes k u u′ v v′ × (score d u u′ v v′ ≡ pos w))
 
 abbrev pub MatrixGrowth : ℕ → List ℕ → ℕ → List Row → List Row → Type 0
-MatrixGrowth n entries k rows larger =
-    let d = distance n entries in GrowthRule (λ u u′ v v′. pos 0 <ℤ score d u u′ v v′) (NewWeight d k rows) weightLimit k rows larger
+MatrixGrowth n entries k rows more =
+    let d = distance n entries in GrowthRule (λ u u′ v v′. pos 0 <ℤ score d u u′ v v′) (NewWeight d k rows) weightLimit k rows more
 
 abbrev pub TableGrowth : List ℕ → ℕ → List Row → List Row → Type 0
-TableGrowth bytes k rows larger =
-    GrowthRule (λ u u′ v v′. u ≢ u′ → v ≢ v′ → stands bytes u u′ v v′ ≡ true) (λ c w. w ≡ tableWeight) tableWeight k rows larger
+TableGrowth bytes k rows more =
+    GrowthRule (λ u u′ v v′. u ≢ u′ → v ≢ v′ → stands bytes u u′ v v′ ≡ true) (λ c w. w ≡ tableWeight) tableWeight k rows more
 
 -- THE FULL ANSWER of a matrix, and of a table, for the first k taxa
 abbrev pub MatrixAnswer : ℕ → List ℕ → ℕ → List Row → Type 0
@@ -92,6 +92,10 @@ MatrixAnswer n entries k rows =
 
 abbrev pub TableAnswer : List ℕ → ℕ → List Row → Type 0
 TableAnswer bytes k rows = FullAnswer (TableSupported bytes k) (λ c w. w ≡ tableWeight) k rows
+
+-- the list with one taxon more
+abbrev pub larger : (ℕ → ℕ → ℕ → ℕ → ℕ) → ℕ → Splits → Splits
+larger trial most s = listOf (suc (s .taxa)) (enlarged trial most (s .taxa) (rowsOf s))
 
 -- what adding a taxon to a list of s rows costs
 abbrev pub cost : ℕ → ℕ
@@ -102,7 +106,7 @@ unfoldable pub grown : (ℕ → ℕ → ℕ → ℕ → ℕ) → ℕ → ℕ →
 grown trial most zero left spent s = record { outcome = Done; list = s; trials = spent }
 grown trial most (suc f) left spent s =
     cond (leb (cost (s .rows)) left)
-    (grown trial most f (left - cost (s .rows)) (spent + cost (s .rows)) (listOf (suc (s .taxa)) (enlarged trial most (s .taxa) (rowsOf s))))
+    (grown trial most f (left - cost (s .rows)) (spent + cost (s .rows)) (larger trial most s))
     (record { outcome = Short; list = s; trials = spent })
 
 -- THE WHOLE RUN, from k = 1 with no row and without an allowance: the rows of the first k taxa
