@@ -1,0 +1,148 @@
+// Growth of a list, a taxon at a time: one piece of code for both kinds of source. Document 01, "Growing and the allowance".
+// A source comes as its kind with both slices, of which one is used: kind 1 has a matrix in `entries`, any other a table in `bytes`.
+use statement::Growth;
+use statement::Outcome;
+use statement::Splits;
+ghost use mathlib.Core.Path.{_≡_};
+ghost use mathlib.Core.List.{[], _∷_};
+ghost use Prim.Native.Nat.{ℕ, suc, _+_, _-_, _^_, _<_, _≤_};
+ghost use lib.ListN.{length, getD};
+ghost use Rattle.statement.specs.Rows.{row, rowsOf, WellFormed};
+ghost use Rattle.statement.specs.Growing.{kept, larger, grown};
+ghost use Rattle.grow.specs.Source.{trialBy, mostBy, Source};
+ghost use Rattle.grow.specs.Appended.{appended, raised};
+
+// The most that a split can weigh: what the newcomer alone starts from.
+fn most(kind: u8) -> u32
+    ensures { λ r. ⌜ r ≡ mostBy kind ⌝ }
+{
+    if kind == 1 {
+        return 2000000;
+    }
+    1
+}
+
+// A trial: the split c of the first k taxa, by its fours that include the taxon a.
+fn try_split(
+    kind: u8,
+    n: usize,
+    entries: &[u32],
+    bytes: &[u8],
+    k: usize,
+    a: usize,
+    c: u64,
+    w: u32,
+) -> u32
+    requires { ⌜ Source kind n (now entries) (now bytes) × (k ≤ n) × (a < k) ⌝ }
+    ensures { λ r. ⌜ r ≡ trialBy kind n (now (entries .entry)) (now (bytes .entry)) k a c w ⌝ }
+{
+    if kind == 1 {
+        return matrix::trial(n, entries, k, a, c, w);
+    }
+    table::trial(n, bytes, k, a, c, w)
+}
+
+// One candidate with the newcomer k, of the weight w: pushed at what its trial says, where that is above zero.
+fn offer(
+    kind: u8,
+    n: usize,
+    entries: &[u32],
+    bytes: &[u8],
+    k: usize,
+    t: Splits,
+    c: u64,
+    w: u32,
+) -> Splits
+    requires { ⌜ Source kind n (now entries) (now bytes) × (k < n) ⌝ }
+    requires { ⌜ t .rows + length (kept (trialBy kind n (now entries) (now bytes) (suc k) k) (row c w ∷ [])) ≤ 125 ⌝ }
+    ensures { λ r. ⌜ r ≡ appended t (kept (trialBy kind n (now (entries .entry)) (now (bytes .entry)) (suc k) k) (row c w ∷ [])) ⌝ }
+{
+    let v = try_split(kind, n, entries, bytes, k + 1, k, c, w);
+    if 0 < v {
+        return splits_list::push(t, c, v);
+    }
+    t
+}
+
+// One pass over the old rows, with b added to each cluster: 0 leaves the newcomer out, its own bit takes it in.
+fn pass(
+    kind: u8,
+    n: usize,
+    entries: &[u32],
+    bytes: &[u8],
+    k: usize,
+    old: Splits,
+    b: u64,
+    into: Splits,
+) -> Splits
+    requires { ⌜ Source kind n (now entries) (now bytes) × (k < n) × (old .rows ≤ 125) ⌝ }
+    requires { ⌜ ((i : ℕ) → i < old .rows → b + getD (old .clusters) i 0 < 2 ^ 64) ⌝ }
+    requires { ⌜ into .rows + length (kept (trialBy kind n (now entries) (now bytes) (suc k) k) (raised b (rowsOf old))) ≤ 125 ⌝ }
+    ensures { λ r. ⌜ r ≡ appended into (kept (trialBy kind n (now (entries .entry)) (now (bytes .entry)) (suc k) k) (raised b (rowsOf old))) ⌝ }
+{
+    let mut t = into;
+    let mut i: usize = 0;
+    let rows = old.rows;
+    while i < rows {
+        t = offer(
+            kind,
+            n,
+            entries,
+            bytes,
+            k,
+            t,
+            b + old.clusters[i],
+            old.weights[i],
+        );
+        i += 1;
+    }
+    t
+}
+
+// The cluster of one taxon.
+fn alone(k: usize) -> u64
+    requires { ⌜ k < 64 ⌝ }
+    ensures { λ r. ⌜ r ≡ 2 ^ k ⌝ }
+{
+    1u64 << k
+}
+
+// One taxon more: the old splits without the newcomer, the newcomer by itself, the old splits with it.
+fn add_taxon(kind: u8, n: usize, entries: &[u32], bytes: &[u8], s: Splits) -> Splits
+    requires { ⌜ Source kind n (now entries) (now bytes) × (s .taxa < n) × WellFormed (mostBy kind) n s ⌝ }
+    ensures { λ r. ⌜ r ≡ larger (trialBy kind n (now (entries .entry)) (now (bytes .entry))) (mostBy kind) s ⌝ }
+{
+    let k = s.taxa;
+    let b = alone(k);
+    let without = pass(kind, n, entries, bytes, k, s, 0, splits_list::empty(k + 1));
+    let single = offer(kind, n, entries, bytes, k, without, b, most(kind));
+    pass(kind, n, entries, bytes, k, s, b, single)
+}
+
+// Taxa are added while what remains of the allowance covers the next one.
+pub fn grow_taxa(kind: u8, n: usize, entries: &[u32], bytes: &[u8], s: Splits, allowance: u64) -> Growth
+    requires { ⌜ Source kind n (now entries) (now bytes) × WellFormed (mostBy kind) n s ⌝ }
+    ensures { λ r. ⌜ r ≡ grown (trialBy kind n (now (entries .entry)) (now (bytes .entry))) (mostBy kind) (n - s .taxa) allowance 0 s ⌝ }
+{
+    let mut t = s;
+    let mut left = allowance;
+    let mut spent: u64 = 0;
+    while t.taxa < n {
+        let cost = 2 * (t.rows as u64) + 1;
+        if left < cost {
+            return Growth {
+                outcome: Outcome::Short,
+                list: t,
+                trials: spent,
+            };
+        }
+        left -= cost;
+        spent += cost;
+        t = add_taxon(kind, n, entries, bytes, t);
+    }
+    Growth {
+        outcome: Outcome::Done,
+        list: t,
+        trials: spent,
+    }
+}
