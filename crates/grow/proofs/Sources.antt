@@ -45,7 +45,7 @@ module _ (kind n : ℕ) (entries bytes : List ℕ) (source : Source kind n entri
   size e = source .table e .size
 
   -- a rule of n taxa that the source's trial answers by
-  rule : (r : Rule) × (r .taxa ≡ n) × Plain r (mostBy kind) (trialBy kind n entries bytes)
+  pub rule : (r : Rule) × (r .taxa ≡ n) × Plain r (mostBy kind) (trialBy kind n entries bytes)
   rule = go (ℕ-discrete kind 1)
     where
       go : Dec (kind ≡ 1) → (r : Rule) × (r .taxa ≡ n) × Plain r (mostBy kind) (trialBy kind n entries bytes)

@@ -13,7 +13,7 @@ ghost use Rattle.grow.specs.Source.{trialBy, mostBy, Source};
 ghost use Rattle.grow.specs.Appended.{appended, raised};
 
 // The most that a split can weigh: what the newcomer alone starts from.
-fn most(kind: u8) -> u32
+pub fn most(kind: u8) -> u32
     ensures { λ r. ⌜ r ≡ mostBy kind ⌝ }
 {
     if kind == 1 {
@@ -120,7 +120,14 @@ fn add_taxon(kind: u8, n: usize, entries: &[u32], bytes: &[u8], s: Splits) -> Sp
 }
 
 // Taxa are added while what remains of the allowance covers the next one.
-pub fn grow_taxa(kind: u8, n: usize, entries: &[u32], bytes: &[u8], s: Splits, allowance: u64) -> Growth
+pub fn grow_taxa(
+    kind: u8,
+    n: usize,
+    entries: &[u32],
+    bytes: &[u8],
+    s: Splits,
+    allowance: u64,
+) -> Growth
     requires { ⌜ Source kind n (now entries) (now bytes) × WellFormed (mostBy kind) n s ⌝ }
     ensures { λ r. ⌜ r ≡ grown (trialBy kind n (now (entries .entry)) (now (bytes .entry))) (mostBy kind) (n - s .taxa) allowance 0 s ⌝ }
 {
