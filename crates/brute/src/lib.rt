@@ -1,0 +1,222 @@
+// Brute force from the definitions, for tests: every split of up to 7 taxa and every four of it, sharing no code with growth; and the small
+// pseudo-random matrices and tables that it is tried on. Scores are kept above zero by adding 10,000,000,000 to each.
+use statement::Splits;
+ghost use mathlib.Core.Path.{_≡_};
+ghost use mathlib.Core.Bool.{true};
+ghost use Prim.Native.Nat.{_<_, _≤_};
+
+fn wide(x: u32) -> u64
+    ensures { λ r. ⌜ r < 4294967296 ⌝ }
+{
+    x as u64
+}
+
+// The distance of two taxa.
+fn between(n: usize, d: &[u32; 49], i: usize, j: usize) -> u64
+    requires { ⌜ (n ≤ 7) × (i < n) × (j < n) ⌝ }
+    ensures { λ r. ⌜ r < 4294967296 ⌝ }
+{
+    let e = samples::entry_at(n, i, j);
+    wide(d[e])
+}
+
+// Whether taxon i is in the group c.
+fn inside(c: u64, i: usize) -> bool
+    requires { ⌜ i < 7 ⌝ }
+{
+    (c >> i) % 2 == 1
+}
+
+// The score of wx|yz, and 10,000,000,000.
+fn score_above(n: usize, d: &[u32; 49], w: usize, x: usize, y: usize, z: usize) -> u64
+    requires { ⌜ (n ≤ 7) × (w < n) × (x < n) × (y < n) × (z < n) ⌝ }
+    ensures { λ r. ⌜ r < 20000000000 ⌝ }
+{
+    let across = between(n, d, w, y) + between(n, d, x, z);
+    let other = between(n, d, w, z) + between(n, d, x, y);
+    let along = between(n, d, w, x) + between(n, d, y, z);
+    if across < other {
+        return across + 10000000000 - along;
+    }
+    other + 10000000000 - along
+}
+
+// The lesser of `least` and the score of uu'|vv', where u and u' are outside the cluster c and v and v' are in it.
+fn lowered(
+    least: u64,
+    n: usize,
+    d: &[u32; 49],
+    c: u64,
+    u: usize,
+    u2: usize,
+    v: usize,
+    v2: usize,
+) -> u64
+    requires { ⌜ (n ≤ 7) × (u < 7) × (u2 < 7) × (v < 7) × (v2 < 7) ⌝ }
+{
+    if u >= n || u2 >= n || v >= n || v2 >= n {
+        return least;
+    }
+    if inside(c, u) || inside(c, u2) || !inside(c, v) || !inside(c, v2) {
+        return least;
+    }
+    let s = score_above(n, d, u, u2, v, v2);
+    if s < least {
+        return s;
+    }
+    least
+}
+
+// The least score of the split c over all its fours, and 10,000,000,000.
+fn weight_above(n: usize, d: &[u32; 49], c: u64) -> u64
+    requires { ⌜ n ≤ 7 ⌝ }
+{
+    let mut least: u64 = 20000000000;
+    let mut q: usize = 0;
+    while q < 2401 {
+        least = lowered(least, n, d, c, q % 7, q / 7 % 7, q / 49 % 7, q / 343);
+        q += 1;
+    }
+    least
+}
+
+// The row after a row that has to be c, w; 200 where it is not, and from then on.
+fn matched(list: Splits, row: usize, c: u64, w: u64) -> usize {
+    if row >= 125 {
+        return 200;
+    }
+    if list.clusters[row] != c {
+        return 200;
+    }
+    if list.weights[row] as u64 != w {
+        return 200;
+    }
+    row + 1
+}
+
+// The row after the split c, which has to be the next row where the matrix supports it.
+fn row_after(n: usize, d: &[u32; 49], list: Splits, row: usize, c: u64) -> usize
+    requires { ⌜ n ≤ 7 ⌝ }
+{
+    if c >> n != 0 {
+        return row;
+    }
+    let w = weight_above(n, d, c);
+    if w <= 10000000000 {
+        return row;
+    }
+    matched(list, row, c, w - 10000000000)
+}
+
+// Whether the list is the answer for the matrix: each supported split of n taxa in turn, ascending, with its weight, and no other.
+pub fn is_matrix_answer(n: usize, d: &[u32; 49], list: Splits) -> bool
+    requires { ⌜ n ≤ 7 ⌝ }
+    ensures { λ r. ⌜ (r ≡ true → list .taxa ≡ n) ⌝ }
+{
+    let mut row: usize = 0;
+    let mut c: u64 = 2;
+    while c < 128 {
+        row = row_after(n, d, list, row, c);
+        c += 2;
+    }
+    if list.taxa != n {
+        return false;
+    }
+    row == list.rows
+}
+
+// Whether the fours a<b<x<d of a split, of which the table says `byte`, is parted by the split as the table says or not by two and two.
+fn agrees(c: u64, a: usize, b: usize, x: usize, d: usize, byte: u8) -> bool
+    requires { ⌜ (a < 7) × (b < 7) × (x < 7) × (d < 7) ⌝ }
+{
+    let first = inside(c, a);
+    let second = inside(c, b);
+    let third = inside(c, x);
+    let fourth = inside(c, d);
+    if first == second && third == fourth && first != third {
+        return byte == 1;
+    }
+    if first == third && second == fourth && first != second {
+        return byte == 2;
+    }
+    if first == fourth && second == third && first != second {
+        return byte == 3;
+    }
+    true
+}
+
+// What a walk through the fours in the order of their places has found: the next place, and whether all agreed.
+struct Fours {
+    place: usize,
+    all: bool,
+}
+
+// One more four, where a<b<x<d are below n.
+fn walked(
+    f: Fours,
+    n: usize,
+    bytes: &[u8; 35],
+    c: u64,
+    a: usize,
+    b: usize,
+    x: usize,
+    d: usize,
+) -> Fours
+    requires { ⌜ (a < 7) × (b < 7) × (x < 7) × (d < 7) ⌝ }
+{
+    let p = f.place;
+    if p >= 35 {
+        return f;
+    }
+    if a >= b || b >= x || x >= d || d >= n {
+        return f;
+    }
+    Fours {
+        place: p + 1,
+        all: f.all && agrees(c, a, b, x, d, bytes[p]),
+    }
+}
+
+// Whether every four of the split c that is parted by two and two stands in the table so.
+fn table_supports(n: usize, bytes: &[u8; 35], c: u64) -> bool {
+    let mut f = Fours {
+        place: 0,
+        all: true,
+    };
+    let mut q: usize = 0;
+    while q < 2401 {
+        f = walked(f, n, bytes, c, q % 7, q / 7 % 7, q / 49 % 7, q / 343);
+        q += 1;
+    }
+    f.all
+}
+
+// The row after the split c, which has to be the next row where the table supports it.
+fn table_row_after(n: usize, bytes: &[u8; 35], list: Splits, row: usize, c: u64) -> usize
+    requires { ⌜ n ≤ 7 ⌝ }
+{
+    if c >> n != 0 {
+        return row;
+    }
+    if !table_supports(n, bytes, c) {
+        return row;
+    }
+    matched(list, row, c, 1)
+}
+
+// Whether the list is the answer for the table: each supported split of n taxa in turn, ascending, at weight 1, and no other.
+pub fn is_table_answer(n: usize, bytes: &[u8; 35], list: Splits) -> bool
+    requires { ⌜ n ≤ 7 ⌝ }
+    ensures { λ r. ⌜ (r ≡ true → list .taxa ≡ n) ⌝ }
+{
+    let mut row: usize = 0;
+    let mut c: u64 = 2;
+    while c < 128 {
+        row = table_row_after(n, bytes, list, row, c);
+        c += 2;
+    }
+    if list.taxa != n {
+        return false;
+    }
+    row == list.rows
+}
