@@ -16,10 +16,10 @@ use Rattle.statement.proofs.Rule.{Distinct}
 use Rattle.statement.proofs.Lesser.{lesser-same, lesser-from, SoFar, lesser-on}
 
 -- WHAT FOURS SAY, by the weight w that the trial starts from: on a matrix the score of ax|yz; on a table only four different taxa count
-abbrev pub matrixSays : (ℕ → ℕ → ℕ) → ℕ → ℕ → ℕ → ℕ → ℕ → ℕ
+unfoldable pub matrixSays : (ℕ → ℕ → ℕ) → ℕ → ℕ → ℕ → ℕ → ℕ → ℕ
 matrixSays d a w x y z = above (score d a x y z)
 
-abbrev pub tableSays : List ℕ → ℕ → ℕ → ℕ → ℕ → ℕ → ℕ
+unfoldable pub tableSays : List ℕ → ℕ → ℕ → ℕ → ℕ → ℕ → ℕ
 tableSays bytes a w x y z = cond (eqb a x || eqb y z) w (cond (stands bytes a x y z) tableWeight 0)
 
 -- what one four says; w where x, y and z do not part as ax|yz
@@ -92,9 +92,19 @@ module _ (f : ℕ → ℕ → ℕ → ℕ → ℕ) (a c w x y z : ℕ) where
   unfolding fourOf
   y-unasked e = rw (eq-eqb (bit c y) (bit c a) e, and-false)
 
-  pub z-unasked : bit c z ≡ bit c a → fourOf f a c w x y z ≡ w
+  z-unasked : bit c z ≡ bit c a → fourOf f a c w x y z ≡ w
   unfolding fourOf
   z-unasked e = simp (eq-eqb (bit c z) (bit c a) e, and-false)
+
+  -- the weight, lowered by the four
+  pub four-asked : {r : ℕ} → Parted c a x y z → r ≡ min (f w x y z) w → r ≡ min (fourOf f a c w x y z) w
+  four-asked p e = e ∙ ap (λ (v : ℕ). min v w) (sym (asked p))
+
+  pub four-content : f w x y z ≡ w → w ≡ min (fourOf f a c w x y z) w
+  four-content e = omega (arith, content e)
+
+  pub z-off : bit c z ≡ bit c a → w ≡ min (fourOf f a c w x y z) w
+  z-off e = omega (arith, z-unasked e)
 
 module _ (f : ℕ → ℕ → ℕ → ℕ → ℕ) (n a c w x : ℕ) where
   pub x-content : ((y z : ℕ) → fourOf f a c w x y z ≡ w) → w ≡ withX f n a c w x
@@ -117,9 +127,11 @@ either-from true s t u v b e f = e
 either-from false s t u v b e f = f
 
 pub matrix-steady : (d : ℕ → ℕ → ℕ) (a : ℕ) → Steady (matrixSays d a)
+unfolding matrixSays
 matrix-steady d a w b x y z h = refl
 
 pub table-steady : (bytes : List ℕ) (a : ℕ) → Steady (tableSays bytes a)
+unfolding tableSays
 table-steady bytes a w b x y z h = either-from (eqb a x || eqb y z) b w _ _ b (omega arith) refl
 
 module _ (f : ℕ → ℕ → ℕ → ℕ → ℕ) (steady : Steady f) (n a c w x : ℕ) where

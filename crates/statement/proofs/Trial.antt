@@ -86,7 +86,7 @@ above-is t (negsuc n) pt = ((λ h. absurd (omega arith)), (λ h. absurd (h .le))
 
 -- ON A MATRIX
 pub matrix-trial : (n : ℕ) (d : ℕ → ℕ → ℕ) (k a c w t : ℕ) → 1 ≤ t → (t ≤ matrixTrial d k a c w) ↔ ((t ≤ w) × Anchored (matrixRule n d) t k a c)
-unfolding matrixTrial
+unfolding matrixTrial matrixSays
 matrix-trial n d k a c w t pt =
     over-fours (matrixRule n d) (matrixSays d a) k a c w (λ s x y z ps l lx ly lz p.
     let e = above-is s _ ps in ((λ h asked. e .0 h), (λ ok. e .1 (ok tt)))) t pt
@@ -96,7 +96,7 @@ pub stands-one : (bytes : List ℕ) (w x y z : ℕ) → Distinct w x y z → tab
 stands-one bytes w x y z d = ap (λ (p : Pairing). pos (cond (eqb (getD bytes (p .place) 0) (p .byte)) 1 0)) (sym (pairing-is w x y z d))
 
 pub table-trial : (n : ℕ) (bytes : List ℕ) (k a c w t : ℕ) → 1 ≤ t → (t ≤ tableTrial bytes k a c w) ↔ ((t ≤ w) × Anchored (tableRule n bytes) t k a c)
-unfolding tableTrial
+unfolding tableTrial tableSays
 table-trial n bytes k a c w t pt = over-fours (tableRule n bytes) (tableSays bytes a) k a c w (λ s x y z ps l lx ly lz p. agree s x y z ps l p) t pt
   where
     agree : (s x y z : ℕ) → 1 ≤ s → s ≤ w → Parted c a x y z → (s ≤ tableSays bytes a w x y z) ↔ Ok (tableRule n bytes) s k c a x y z
