@@ -146,7 +146,16 @@ fn four(n: usize, bytes: &[u8], a: usize, c: u64, x: usize, y: usize, z: usize, 
 }
 
 // A weight, lowered by the fours ax|yz with this y and any z, where x is another taxon on a's side.
-fn fours_with_xy(n: usize, bytes: &[u8], k: usize, a: usize, c: u64, w: u32, x: usize, y: usize) -> u32
+fn fours_with_xy(
+    n: usize,
+    bytes: &[u8],
+    k: usize,
+    a: usize,
+    c: u64,
+    w: u32,
+    x: usize,
+    y: usize,
+) -> u32
     requires { ⌜ (n ≤ 64) × (length (now bytes) ≡ choose n 4) × (k ≤ n) × (a < k) × (x < k) × (y < k) ⌝ }
     requires { ⌜ (a ≢ x) × (bit c x ≡ bit c a) ⌝ }
     ensures { λ r. ⌜ r ≡ withXY (tableSays (now (bytes .entry)) a) k a c w x y ⌝ }
