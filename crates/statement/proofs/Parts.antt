@@ -37,12 +37,13 @@ pub over-parts : (f : ℕ → ℕ → ℕ → ℕ → ℕ) (n a c w : ℕ) → l
 unfolding overFours withX withXY fourOf
 over-parts f n a c w = refl
 
--- SIDES, as a test shows them
-pub on-side : (p q : ℕ) {r : Bool} → r ≡ eqb p q → r ≡ true → p ≡ q
-on-side p q e h = eqb-true p q (sym e ∙ h)
+-- SIDES of the split c, as a test of i beside a shows them
+module _ (c a i : ℕ) {r : Bool} (e : r ≡ eqb (bit c i) (bit c a)) where
+  pub on-side : r ≡ true → bit c i ≡ bit c a
+  on-side h = eqb-true (bit c i) (bit c a) (sym e ∙ h)
 
-pub off-side : (p q : ℕ) {r : Bool} → r ≡ eqb p q → r ≡ false → p ≢ q
-off-side p q e h = eqb-false p q (sym e ∙ h)
+  pub off-side : r ≡ false → bit c i ≢ bit c a
+  off-side h = eqb-false (bit c i) (bit c a) (sym e ∙ h)
 
 -- x is on a's side of c, y and z are on the other
 pub record Parted (c a x y z : ℕ) : Type 0 where

@@ -1,5 +1,6 @@
 -- `matrix::fours_with_x` meets its contract: the loop has lowered the weight by the fours with a y passed. Assumes nothing.
 use Prim.Native.Nat.{_-_}
+use native.Mathlib.Omega.{arith}
 use borrow.Author.Needs.{needs}
 use borrow.Author.Tests.{not-true, not-false}
 use Rattle.statement.specs.Matrix.{distance}
@@ -18,7 +19,7 @@ same-side-requires : tie.Need-same-side-requires Inv-loop μ-loop
 same-side-requires c κs = search needs
 
 returns : tie.Need-returns Inv-loop μ-loop
-returns c = x-off _ _ _ _ _ _ (off-side _ _ (c .before .same-side .ensures) (not-true _ (c .if1 .taken)))
+returns c = x-off _ _ _ _ _ _ (off-side _ _ _ (c .before .same-side .ensures) (not-true _ (c .if1 .taken)))
 
 loop-holds : tie.Need-loop-holds Inv-loop μ-loop
 loop-holds c = lesser-begun
@@ -26,7 +27,8 @@ loop-holds c = lesser-begun
 fours-with-xy-requires : tie.Need-fours-with-xy-requires Inv-loop μ-loop
 fours-with-xy-requires c κs =
     let same = c .before .before in
-    (search needs, on-side _ _ (same .before .same-side .ensures) (not-false _ (same .if1 .left)))
+    let a = same .before .before .before .args in
+    (search needs, on-side (a .c) (a .a) (a .x) (same .before .same-side .ensures) (not-false _ (same .if1 .left)))
 
 add-y : tie.Need-add-y Inv-loop μ-loop
 add-y c = search needs
@@ -35,7 +37,7 @@ loop-less : tie.Need-loop-less Inv-loop μ-loop
 loop-less c = search needs
 
 loop-again : tie.Need-loop-again Inv-loop μ-loop
-loop-again c = y-turn _ (matrix-steady _ _) _ _ _ _ _ (c .before .before .loop .inv) (c .before .loop-test .taken) (c .fours-with-xy .ensures)
+loop-again c = y-turn _ (matrix-steady _ _) _ _ _ _ _ (c .before .before .loop .inv) (omega arith) (c .fours-with-xy .ensures)
 
 returns-2 : tie.Need-returns-2 Inv-loop μ-loop
 unfolding withX

@@ -1,5 +1,6 @@
 -- `matrix::fours_with_xy` meets its contract: the loop has lowered the weight by the fours with a z passed. Assumes nothing.
 use Prim.Native.Nat.{_-_}
+use native.Mathlib.Omega.{arith}
 use borrow.Author.Needs.{needs}
 use Rattle.statement.specs.Matrix.{distance}
 use Rattle.statement.proofs.Lesser.{SoFar, lesser-begun, lesser-ended}
@@ -17,7 +18,7 @@ same-side-requires : tie.Need-same-side-requires Inv-loop μ-loop
 same-side-requires c κs = search needs
 
 returns : tie.Need-returns Inv-loop μ-loop
-returns c = y-off _ _ _ _ _ _ _ (on-side _ _ (c .before .same-side .ensures) (c .if1 .taken))
+returns c = y-off _ _ _ _ _ _ _ (on-side _ _ _ (c .before .same-side .ensures) (c .if1 .taken))
 
 loop-holds : tie.Need-loop-holds Inv-loop μ-loop
 loop-holds c = lesser-begun
@@ -25,7 +26,8 @@ loop-holds c = lesser-begun
 four-requires : tie.Need-four-requires Inv-loop μ-loop
 four-requires c κs =
     let other = c .before .before in
-    (search needs, (other .before .before .before .pre .1, off-side _ _ (other .before .same-side .ensures) (other .if1 .left)))
+    let s = other .before .before .before in
+    (search needs, (s .pre .1, off-side (s .args .c) (s .args .a) (s .args .y) (other .before .same-side .ensures) (other .if1 .left)))
 
 add-z : tie.Need-add-z Inv-loop μ-loop
 add-z c = search needs
@@ -34,7 +36,7 @@ loop-less : tie.Need-loop-less Inv-loop μ-loop
 loop-less c = search needs
 
 loop-again : tie.Need-loop-again Inv-loop μ-loop
-loop-again c = z-turn _ (matrix-steady _ _) _ _ _ _ _ _ (c .before .before .loop .inv) (c .before .loop-test .taken) (c .four .ensures)
+loop-again c = z-turn _ (matrix-steady _ _) _ _ _ _ _ _ (c .before .before .loop .inv) (omega arith) (c .four .ensures)
 
 returns-2 : tie.Need-returns-2 Inv-loop μ-loop
 unfolding withXY

@@ -10,13 +10,13 @@ use Rattle.table.proofs.four.Tie as tie
 parts : (c : tie.Else1) → let s = c .before .before .before in Parted (s .args .c) (s .args .a) (s .args .x) (s .args .y) (s .args .z)
 parts c =
     let s = c .before .before .before in
-    record { x-side = s .pre .1 .1; y-side = s .pre .1 .2; z-side = off-side _ _ (c .before .same-side .ensures) (c .if1 .left) }
+    record { x-side = s .pre .1 .1; y-side = s .pre .1 .2; z-side = off-side _ _ _ (c .before .same-side .ensures) (c .if1 .left) }
 
 same-side-requires : tie.Need-same-side-requires
 same-side-requires c κs = search needs
 
 returns : tie.Need-returns
-returns c = z-off _ _ _ _ _ _ _ (on-side _ _ (c .before .same-side .ensures) (c .if1 .taken))
+returns c = z-off _ _ _ _ _ _ _ (on-side _ _ _ (c .before .same-side .ensures) (c .if1 .taken))
 
 returns-2 : tie.Need-returns-2
 returns-2 c = four-content _ _ _ _ _ _ _ (says-repeats _ _ _ _ _ _ (c .if2 .taken))

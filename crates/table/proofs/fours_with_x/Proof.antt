@@ -1,5 +1,6 @@
 -- `table::fours_with_x` meets its contract: the loop has lowered the weight by the fours with a y passed. Assumes nothing.
 use Prim.Native.Nat.{_-_}
+use native.Mathlib.Omega.{arith}
 use borrow.Author.Needs.{needs}
 use borrow.Author.Tests.{not-true, not-false}
 use Rattle.statement.proofs.Lesser.{SoFar, lesser-begun, lesser-ended}
@@ -21,7 +22,7 @@ same-side-requires : tie.Need-same-side-requires Inv-loop μ-loop
 same-side-requires c κs = search needs
 
 returns-2 : tie.Need-returns-2 Inv-loop μ-loop
-returns-2 c = x-off _ _ _ _ _ _ (off-side _ _ (c .before .same-side .ensures) (not-true _ (c .if2 .taken)))
+returns-2 c = x-off _ _ _ _ _ _ (off-side _ _ _ (c .before .same-side .ensures) (not-true _ (c .if2 .taken)))
 
 loop-holds : tie.Need-loop-holds Inv-loop μ-loop
 loop-holds c = lesser-begun
@@ -29,7 +30,8 @@ loop-holds c = lesser-begun
 fours-with-xy-requires : tie.Need-fours-with-xy-requires Inv-loop μ-loop
 fours-with-xy-requires c κs =
     let same = c .before .before in
-    (search needs, (same .before .before .if1 .left, on-side _ _ (same .before .same-side .ensures) (not-false _ (same .if2 .left))))
+    let a = same .before .before .before .before .args in
+    (search needs, (same .before .before .if1 .left, on-side (a .c) (a .a) (a .x) (same .before .same-side .ensures) (not-false _ (same .if2 .left))))
 
 add-y : tie.Need-add-y Inv-loop μ-loop
 add-y c = search needs
@@ -38,7 +40,7 @@ loop-less : tie.Need-loop-less Inv-loop μ-loop
 loop-less c = search needs
 
 loop-again : tie.Need-loop-again Inv-loop μ-loop
-loop-again c = y-turn _ (table-steady _ _) _ _ _ _ _ (c .before .before .loop .inv) (c .before .loop-test .taken) (c .fours-with-xy .ensures)
+loop-again c = y-turn _ (table-steady _ _) _ _ _ _ _ (c .before .before .loop .inv) (omega arith) (c .fours-with-xy .ensures)
 
 returns-3 : tie.Need-returns-3 Inv-loop μ-loop
 unfolding withX

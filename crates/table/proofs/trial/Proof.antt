@@ -1,6 +1,7 @@
 -- `table::trial` meets its contract: the loop has lowered the weight by the fours with an x passed. Assumes nothing.
 use Prim.Native.Nat.{_-_}
 use mathlib.Core.Path.{_∙_}
+use native.Mathlib.Omega.{arith}
 use borrow.Author.Needs.{needs}
 use Rattle.statement.specs.Growing.{tableTrial}
 use Rattle.statement.proofs.Lesser.{SoFar, lesser-begun, lesser-ended}
@@ -27,7 +28,7 @@ loop-less : tie.Need-loop-less Inv-loop μ-loop
 loop-less c = search needs
 
 loop-again : tie.Need-loop-again Inv-loop μ-loop
-loop-again c = x-turn _ (table-steady _ _) _ _ _ _ _ (c .before .before .loop .inv) (c .before .loop-test .taken) (c .fours-with-x .ensures)
+loop-again c = x-turn _ (table-steady _ _) _ _ _ _ _ (c .before .before .loop .inv) (omega arith) (c .fours-with-x .ensures)
 
 returns : tie.Need-returns Inv-loop μ-loop
 unfolding tableTrial tableSays
