@@ -15,25 +15,29 @@ use Rattle.statement.specs.Growing.{lesser, partsAs, overFours, above}
 use Rattle.statement.proofs.Rule.{Distinct}
 use Rattle.statement.proofs.Lesser.{lesser-same, lesser-from, SoFar, lesser-on}
 
--- WHAT FOURS SAY, by the weight w that the trial starts from: on a matrix the score of ax|yz; on a table only four different taxa count
-unfoldable pub matrixSays : (ℕ → ℕ → ℕ) → ℕ → ℕ → ℕ → ℕ → ℕ → ℕ
+-- WHAT FOURS SAY, by the weight w that the trial starts from, and by x, y and z
+abbrev pub Says : Type 0
+Says = ℕ → ℕ → ℕ → ℕ → ℕ
+
+-- on a matrix the score of ax|yz; on a table only four different taxa count
+unfoldable pub matrixSays : (ℕ → ℕ → ℕ) → ℕ → Says
 matrixSays d a w x y z = above (score d a x y z)
 
-unfoldable pub tableSays : List ℕ → ℕ → ℕ → ℕ → ℕ → ℕ → ℕ
+unfoldable pub tableSays : List ℕ → ℕ → Says
 tableSays bytes a w x y z = cond (eqb a x || eqb y z) w (cond (stands bytes a x y z) tableWeight 0)
 
 -- what one four says; w where x, y and z do not part as ax|yz
-unfoldable pub fourOf : (ℕ → ℕ → ℕ → ℕ → ℕ) → ℕ → ℕ → ℕ → ℕ → ℕ → ℕ → ℕ
+unfoldable pub fourOf : Says → ℕ → ℕ → ℕ → ℕ → ℕ → ℕ → ℕ
 fourOf f a c w x y z = cond (partsAs c a x y z) (f w x y z) w
 
 -- the lesser of w and these for z below n; and for y and z below n
-unfoldable pub withXY : (ℕ → ℕ → ℕ → ℕ → ℕ) → ℕ → ℕ → ℕ → ℕ → ℕ → ℕ → ℕ
+unfoldable pub withXY : Says → ℕ → ℕ → ℕ → ℕ → ℕ → ℕ → ℕ
 withXY f n a c w x y = lesser w (fourOf f a c w x y) n
 
-unfoldable pub withX : (ℕ → ℕ → ℕ → ℕ → ℕ) → ℕ → ℕ → ℕ → ℕ → ℕ → ℕ
+unfoldable pub withX : Says → ℕ → ℕ → ℕ → ℕ → ℕ → ℕ
 withX f n a c w x = lesser w (withXY f n a c w x) n
 
-pub over-parts : (f : ℕ → ℕ → ℕ → ℕ → ℕ) (n a c w : ℕ) → lesser w (withX f n a c w) n ≡ overFours (f w) n a c w
+pub over-parts : (f : Says) (n a c w : ℕ) → lesser w (withX f n a c w) n ≡ overFours (f w) n a c w
 unfolding overFours withX withXY fourOf
 over-parts f n a c w = refl
 
@@ -72,7 +76,7 @@ and-false : (b : Bool) → (b && false) ≡ false
 and-false true = refl
 and-false false = refl
 
-module _ (f : ℕ → ℕ → ℕ → ℕ → ℕ) (a c w x y z : ℕ) where
+module _ (f : Says) (a c w x y z : ℕ) where
   pub asked : Parted c a x y z → fourOf f a c w x y z ≡ f w x y z
   unfolding fourOf
   asked p = rw (parted p)
@@ -107,7 +111,7 @@ module _ (f : ℕ → ℕ → ℕ → ℕ → ℕ) (a c w x y z : ℕ) where
   pub z-off : bit c z ≡ bit c a → w ≡ min (fourOf f a c w x y z) w
   z-off e = omega (arith, z-unasked e)
 
-module _ (f : ℕ → ℕ → ℕ → ℕ → ℕ) (n a c w x : ℕ) where
+module _ (f : Says) (n a c w x : ℕ) where
   pub x-content : ((y z : ℕ) → fourOf f a c w x y z ≡ w) → w ≡ withX f n a c w x
   unfolding withX withXY
   x-content h = sym (lesser-same w (withXY f n a c w x) n (λ y. lesser-same w (fourOf f a c w x y) n (h y)))
@@ -120,7 +124,7 @@ module _ (f : ℕ → ℕ → ℕ → ℕ → ℕ) (n a c w x : ℕ) where
   y-off y e = sym (lesser-same w (fourOf f a c w x y) n (λ z. y-unasked f a c w x y z e))
 
 -- THE LEAST SO FAR, handed on. What fours say is steady: to start from a lesser weight b is to take the lesser of b too
-abbrev pub Steady : (ℕ → ℕ → ℕ → ℕ → ℕ) → Type 0
+abbrev pub Steady : Says → Type 0
 Steady f = (w b x y z : ℕ) → b ≤ w → min (f b x y z) b ≡ min (f w x y z) b
 
 either-from : (p : Bool) (s t u v b : ℕ) → min s b ≡ min t b → min u b ≡ min v b → min (cond p s u) b ≡ min (cond p t v) b
@@ -135,7 +139,7 @@ pub table-steady : (bytes : List ℕ) (a : ℕ) → Steady (tableSays bytes a)
 unfolding tableSays
 table-steady bytes a w b x y z h = either-from (eqb a x || eqb y z) b w _ _ b (omega arith) refl
 
-module _ (f : ℕ → ℕ → ℕ → ℕ → ℕ) (steady : Steady f) (n a c w x : ℕ) where
+module _ (f : Says) (steady : Steady f) (n a c w x : ℕ) where
   module _ (b : ℕ) (h : b ≤ w) where
     four-from : (y z : ℕ) → min (fourOf f a c b x y z) b ≡ min (fourOf f a c w x y z) b
     unfolding fourOf

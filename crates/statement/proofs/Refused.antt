@@ -2,15 +2,14 @@
 use Prim.Native.Nat.{ℕ, _≤_, _<_}
 use native.Mathlib.Omega.{arith}
 use mathlib.Core.Path.{_≡_, refl, sym, _∙_, ap}
-use mathlib.Core.Logic.{_↔_, _≢_, _⊎_, inl, inr}
-use mathlib.Core.Bool.{Bool, true, false, not, _||_}
+use mathlib.Core.Logic.{_↔_, _⊎_, inl, inr}
+use mathlib.Core.Bool.{Bool, true, false}
 use mathlib.Core.List.{List, [], _∷_}
-use lib.Dec.{ltb, eqb}
-use borrow.Author.Tests.{ltb-true, lt-ltb, le-ltb, eq-eqb, ne-eqb}
+use borrow.Author.Tests.{ltb-true, lt-ltb, le-ltb}
 use Rattle.statement.specs.declared.Outcome.{Outcome}
 use Rattle.statement.specs.declared.Outcome.the-variants.{Done, Short, Refused}
 use Rattle.statement.specs.Lowest.{lowestFrom, lowest, some}
-use Rattle.statement.specs.Refusals.{numberOf, placeOf, Check, single, outcomeOf, Passed, Fails, AllPassed, Given, taxaOff, lengthOff}
+use Rattle.statement.specs.Refusals.{numberOf, placeOf, Check, single, outcomeOf, Passed, Fails, AllPassed, Given}
 use Rattle.statement.proofs.Lowest.{lowest-is, lowest-at, lowest-none, none-of, none-at}
 
 -- ONE CHECK of an order, where r is its lowest bad place: it refuses there, or the next check has the say
@@ -23,6 +22,9 @@ module _ (c : Check) (cs : List Check) (r : ℕ) (e : r ≡ lowest (c .bad) (c .
   unfolding outcomeOf
   passed-at h = rw (← e, le-ltb r (c .places) h)
 
+pub first-passed : (c : Check) (cs : List Check) → Passed c → outcomeOf (c ∷ cs) ≡ outcomeOf cs
+first-passed c cs p = passed-at c cs (c .places) (sym (lowest-none (c .bad) (c .places) (none-at (c .bad) (c .places) p))) (omega arith)
+
 -- the same for a check whose place is always 0
 module _ (number : ℕ) (bad : Bool) (cs : List Check) where
   pub refused-single : bad ≡ true → outcomeOf (single number bad ∷ cs) ≡ Refused number 0
@@ -30,30 +32,11 @@ module _ (number : ℕ) (bad : Bool) (cs : List Check) where
   refused-single e = rw e
 
   pub passed-single : bad ≡ false → outcomeOf (single number bad ∷ cs) ≡ outcomeOf cs
-  unfolding outcomeOf lowestFrom
-  passed-single e = rw e
+  passed-single e = first-passed (single number bad) cs (λ i l. e)
 
 pub none-left : outcomeOf [] ≡ Done
 unfolding outcomeOf
 none-left = refl
-
--- THE FIRST CHECKS of an input with its n: of n, and of the input's length
-module _ (n : ℕ) (cs : List Check) where
-  pub too-few : n < 2 → outcomeOf (taxaOff n ∷ cs) ≡ Refused 1 0
-  too-few h = refused-single 1 (ltb n 2 || ltb 64 n) cs (rw (lt-ltb n 2 h))
-
-  pub too-many : 64 < n → outcomeOf (taxaOff n ∷ cs) ≡ Refused 1 0
-  too-many h = refused-single 1 (ltb n 2 || ltb 64 n) cs (rw (le-ltb n 2 (omega arith), lt-ltb 64 n h))
-
-  module _ (low : 2 ≤ n) (high : n ≤ 64) (len wanted : ℕ) where
-    past-taxa : outcomeOf (taxaOff n ∷ lengthOff (eqb len wanted) ∷ cs) ≡ outcomeOf (lengthOff (eqb len wanted) ∷ cs)
-    past-taxa = passed-single 1 (ltb n 2 || ltb 64 n) _ (rw (le-ltb n 2 low, le-ltb 64 n high))
-
-    pub wrong-length : len ≢ wanted → outcomeOf (taxaOff n ∷ lengthOff (eqb len wanted) ∷ cs) ≡ Refused 2 0
-    wrong-length h = past-taxa ∙ refused-single 2 (not (eqb len wanted)) cs (rw (ne-eqb len wanted h))
-
-    pub past-length : len ≡ wanted → outcomeOf (taxaOff n ∷ lengthOff (eqb len wanted) ∷ cs) ≡ outcomeOf cs
-    past-length h = past-taxa ∙ passed-single 2 (not (eqb len wanted)) cs (rw (eq-eqb len wanted h))
 
 -- WHOLE ORDERS. A check that fails does so at one place, its lowest
 fails-at : (c : Check) → some (c .bad) (c .places) ≡ true → Fails c (c .number) (lowest (c .bad) (c .places))
@@ -61,9 +44,6 @@ fails-at c e =
     let h = ltb-true (lowest (c .bad) (c .places)) (c .places) e in
     let x = lowest-is (c .bad) 0 (c .places) in
     record { named = refl; within = h; bad = x .hit (omega arith); lowest = λ i l. x .before i (omega arith) l }
-
-pub first-passed : (c : Check) (cs : List Check) → Passed c → outcomeOf (c ∷ cs) ≡ outcomeOf cs
-first-passed c cs p = passed-at c cs (c .places) (sym (lowest-none (c .bad) (c .places) (none-at (c .bad) (c .places) p))) (omega arith)
 
 pub given-refused : (checks : List Check) (number place : ℕ) → Given checks number place → outcomeOf checks ≡ Refused number place
 given-refused (c ∷ cs) number place (inl f) =

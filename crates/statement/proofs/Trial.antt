@@ -18,10 +18,10 @@ use Rattle.statement.proofs.Rule.{Rule, Distinct, Ok, New, Meet, Trial}
 use Rattle.statement.proofs.Instances.{matrixRule, placed, code, tableAt, tableRule}
 use Rattle.statement.proofs.Pairing.{pairing-is}
 use Rattle.statement.proofs.Lesser.{lesser-of, of-lesser}
-use Rattle.statement.proofs.Parts.{matrixSays, tableSays, fourOf, withXY, withX, over-parts, Parted, parted-distinct, asked}
+use Rattle.statement.proofs.Parts.{Says, matrixSays, tableSays, fourOf, withXY, withX, over-parts, Parted, parted-distinct, asked}
 
 -- what is at most the weight, and at most what a four says where it is asked
-unasked : (f : ℕ → ℕ → ℕ → ℕ → ℕ) (a c w x y z t : ℕ) → t ≤ w → (Parted c a x y z → t ≤ f w x y z) → t ≤ fourOf f a c w x y z
+unasked : (f : Says) (a c w x y z t : ℕ) → t ≤ w → (Parted c a x y z → t ≤ f w x y z) → t ≤ fourOf f a c w x y z
 unfolding fourOf
 unasked f a c w x y z t l h = go (eqb (bit c x) (bit c a)) refl (eqb (bit c y) (bit c a)) refl (eqb (bit c z) (bit c a)) refl
   where
@@ -37,7 +37,7 @@ abbrev pub Anchored : Rule → ℕ → ℕ → ℕ → ℕ → Type 0
 Anchored r t n a c = (x y z : ℕ) → x < n → y < n → z < n → Parted c a x y z → Ok r t n c a x y z
 
 -- THE MEANING, where what the fours say stands for the rule's scores
-module _ (r : Rule) (f : ℕ → ℕ → ℕ → ℕ → ℕ) (n a c w : ℕ)
+module _ (r : Rule) (f : Says) (n a c w : ℕ)
     (agree : (t x y z : ℕ) → 1 ≤ t → t ≤ w → x < n → y < n → z < n → Parted c a x y z → (t ≤ f w x y z) ↔ Ok r t n c a x y z) where
   pub over-fours : (t : ℕ) → 1 ≤ t → (t ≤ overFours (f w) n a c w) ↔ ((t ≤ w) × Anchored r t n a c)
   unfolding withX withXY

@@ -8,7 +8,8 @@ use mathlib.Core.List.{List, [], _∷_}
 use borrow.Author.Needs.{needs}
 use borrow.Author.Tests.{ltb-true, ltb-false}
 use Rattle.statement.specs.Refusals.{Check, outcomeOf, matrixChecks, entryChecks, diagonalOff, distanceOff, pairOff}
-use Rattle.statement.proofs.Refused.{refused-at, passed-at, none-left, too-few, too-many, wrong-length, past-length}
+use Rattle.statement.proofs.Refused.{refused-at, passed-at, none-left}
+use Rattle.statement.proofs.Accepted.{too-few, too-many, wrong-length, past-length}
 use Rattle.matrix.proofs.check.Statement.{statement}
 use Rattle.matrix.proofs.check.Tie as tie
 

@@ -6,7 +6,8 @@ use mathlib.Core.List.{[], _∷_}
 use borrow.Author.Needs.{needs}
 use borrow.Author.Tests.{ltb-true, ltb-false}
 use Rattle.statement.specs.Refusals.{outcomeOf, tableChecks, byteOff}
-use Rattle.statement.proofs.Refused.{refused-at, passed-at, none-left, too-few, too-many, wrong-length, past-length}
+use Rattle.statement.proofs.Refused.{refused-at, passed-at, none-left}
+use Rattle.statement.proofs.Accepted.{too-few, too-many, wrong-length, past-length}
 use Rattle.table.proofs.check.Statement.{statement}
 use Rattle.table.proofs.check.Tie as tie
 
