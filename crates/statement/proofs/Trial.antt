@@ -2,7 +2,7 @@
 -- less. Assumes nothing.
 use Prim.Native.Nat.{ℕ, suc, _≤_, _<_}
 use native.Mathlib.Omega.{arith}
-use mathlib.Core.Path.{_≡_, refl, sym, _∙_, ap, subst}
+use mathlib.Core.Path.{_≡_, refl, sym, ap, subst}
 use mathlib.Core.Logic.{_≢_, _↔_}
 use mathlib.Core.Bool.{Bool, true, false, cond, not, _&&_, _||_}
 use mathlib.Core.List.{List}
@@ -14,7 +14,7 @@ use borrow.Author.Tests.{eqb-true, eqb-false}
 use Rattle.statement.specs.Cluster.{bit}
 use Rattle.statement.specs.Table.{Pairing, stands, tableWeight}
 use Rattle.statement.specs.Growing.{lesser, overFours, above, matrixTrial, tableTrial}
-use Rattle.statement.proofs.Rule.{Rule, Distinct, Ok, New, Meet, Trial}
+use Rattle.statement.proofs.Rule.{Rule, Distinct, Ok, New, Trial}
 use Rattle.statement.proofs.Instances.{matrixRule, placed, code, tableAt, tableRule}
 use Rattle.statement.proofs.Pairing.{pairing-is}
 use Rattle.statement.proofs.Lesser.{lesser-of, of-lesser}

@@ -1,5 +1,5 @@
 -- What a table says of a trial's fours: nothing where a taxon repeats, else whether the four stands. Assumes nothing.
-use Prim.Native.Nat.{ℕ, _<_, min}
+use Prim.Native.Nat.{ℕ, min}
 use native.Mathlib.Omega.{arith}
 use mathlib.Core.Path.{_≡_, refl, sym, _∙_, ap}
 use mathlib.Core.Logic.{_≢_}

@@ -71,12 +71,12 @@ pub fn check(n: usize, bytes: &[u8]) -> Outcome
     Outcome::Done
 }
 
-// The place of the four a<b<c<d.
-fn place_of(a: usize, b: usize, c: usize, d: usize) -> usize
-    requires { ⌜ (a < b) × (b < c) × (c < d) × (d < 64) ⌝ }
-    ensures { λ r. ⌜ r ≡ place a b c d ⌝ }
+// The byte of the four a<b<c<d, at its place.
+fn byte_of(n: usize, bytes: &[u8], a: usize, b: usize, c: usize, d: usize) -> u8
+    requires { ⌜ (n ≤ 64) × (length (now bytes) ≡ choose n 4) × (a < b) × (b < c) × (c < d) × (d < n) ⌝ }
+    ensures { λ r. ⌜ r ≡ getD (now (bytes .entry)) (place a b c d) 0 ⌝ }
 {
-    a + binomial(b, 2) + binomial(c, 3) + binomial(d, 4)
+    bytes[a + binomial(b, 2) + binomial(c, 3) + binomial(d, 4)]
 }
 
 // Whether wx|yz stands in the table, for w<x, y<z and w<y.
@@ -85,15 +85,12 @@ fn ordered_stands(n: usize, bytes: &[u8], w: usize, x: usize, y: usize, z: usize
     ensures { λ r. ⌜ r ≡ eqb (getD (now (bytes .entry)) (ordered w x y z .place) 0) (ordered w x y z .byte) ⌝ }
 {
     if x < y {
-        let p = place_of(w, x, y, z);
-        return bytes[p] == 1;
+        return byte_of(n, bytes, w, x, y, z) == 1;
     }
     if x < z {
-        let p = place_of(w, y, x, z);
-        return bytes[p] == 2;
+        return byte_of(n, bytes, w, y, x, z) == 2;
     }
-    let p = place_of(w, y, z, x);
-    bytes[p] == 3
+    byte_of(n, bytes, w, y, z, x) == 3
 }
 
 // Two taxa, the lower first.

@@ -1,5 +1,4 @@
 -- `table::four` meets its contract: a four of different taxa is asked where z is on the other side too. Assumes nothing.
-use native.Mathlib.Omega.{arith}
 use mathlib.Core.Bool.{true, false}
 use borrow.Author.Needs.{needs}
 use Rattle.statement.proofs.Parts.{Parted, on-side, off-side, parted-distinct, four-content, z-off}

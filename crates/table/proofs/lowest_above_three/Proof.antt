@@ -1,6 +1,6 @@
 -- `table::lowest_above_three` meets its contract. The loop has passed no bad byte. Assumes nothing.
 use Prim.Native.Nat.{_-_}
-use lib.ListN.{length, getD}
+use lib.ListN.{length}
 use borrow.Author.Needs.{needs}
 use borrow.Author.Tests.{lt-ltb, le-ltb}
 use Rattle.statement.specs.Refusals.{byteOff}
