@@ -1,4 +1,4 @@
--- The signed score: one difference of two sums, and its sign. Assumes nothing.
+-- The signed score: one difference of two sums, its sign, and a weight lowered by it. Assumes nothing.
 use Prim.Native.Nat.{ℕ, zero, suc, _+_, _-_, _^_, _<_, min}
 use native.Mathlib.Omega.{arith}
 use mathlib.Core.Path.{_≡_, refl, sym, _∙_, ap, ap₂, subst}
@@ -12,6 +12,7 @@ use mir.ValLaws.{toZ-ofZ}
 use borrow.Author.Tests.{ltb-false, leb-true, leb-false, le-ltb}
 use Rattle.statement.specs.Matrix.{score}
 use Rattle.statement.specs.Growing.{above}
+use Rattle.statement.proofs.Parts.{matrixSays, fourOf, Parted, four-asked}
 
 minus : (a b : ℕ) → pos a -ℤ pos b ≡ subℕ a b
 minus a zero = let e : a + 0 ≡ a - 0 = omega arith in ap pos e ∙ rw (le-ltb a 0 (omega arith))
@@ -51,3 +52,9 @@ pub score-is : (d : ℕ → ℕ → ℕ) (w x y z : ℕ) {wy xz wz xy wx yz m : 
     → wy ≡ d w y → xz ≡ d x z → wz ≡ d w z → xy ≡ d x y → wx ≡ d w x → yz ≡ d y z → m ≡ min (wy + xz) (wz + xy)
     → subℕ m (wx + yz) ≡ score d w x y z
 score-is d w x y z wy xz wz xy wx yz m = cc
+
+-- a weight, lowered by the score of a four that is asked
+pub lowered-by : (d : ℕ → ℕ → ℕ) (a c w x y z : ℕ) {r : ℕ} {s t : ℤ} → Parted c a x y z → r ≡ min (above s) w → s ≡ t → t ≡ score d a x y z
+    → r ≡ min (fourOf (matrixSays d a) a c w x y z) w
+unfolding matrixSays
+lowered-by d a c w x y z p e f g = four-asked (matrixSays d a) a c w x y z p (e ∙ ap (λ (v : ℤ). min (above v) w) (f ∙ g))

@@ -1,4 +1,3 @@
 -- The root of the specs.
 pub mod Square
 pub mod Entries
-pub mod Fours

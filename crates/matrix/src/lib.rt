@@ -1,10 +1,10 @@
 // A distance matrix, n by n, row by row: its checks, the score of a pairing, and the trial of a split over the fours that hold one taxon.
 // Document 01, "Scores and splits", "Growing and the allowance" and "Refusal numbers".
+use bits::same_side;
 use statement::Outcome;
 ghost use Prim.Native.Nat.{_*_, _^_, _≤_, _<_, min};
 ghost use mathlib.Core.Path.{_≡_};
-ghost use mathlib.Core.Bool.{true, false};
-ghost use lib.Dec.{eqb};
+ghost use mathlib.Core.Logic.{_≢_};
 ghost use lib.IntN.{pos};
 ghost use lib.Signed.{ltZ};
 ghost use Rattle.statement.specs.Cluster.{bit};
@@ -12,9 +12,9 @@ ghost use Rattle.statement.specs.Lowest.{lowest};
 ghost use Rattle.statement.specs.Matrix.{distance, score};
 ghost use Rattle.statement.specs.Growing.{above, matrixTrial};
 ghost use Rattle.statement.specs.Refusals.{outcomeOf, matrixChecks};
+ghost use Rattle.statement.proofs.Parts.{matrixSays, fourOf, withXY, withX};
 ghost use Rattle.matrix.specs.Square.{Square};
 ghost use Rattle.matrix.specs.Entries.{entryCheck};
-ghost use Rattle.matrix.specs.Fours.{fourWith, foursWithXY, foursWithX};
 
 // Matrix: the distance of two taxa.
 fn between(n: usize, entries: &[u32], i: usize, j: usize) -> u64
@@ -119,19 +119,11 @@ fn lowered(best: u32, score: i64) -> u32
     0
 }
 
-// Whether taxon i is on a's side of the split c.
-fn same_side(c: u64, a: usize, i: usize) -> bool
-    requires { ⌜ (a < 64) × (i < 64) ⌝ }
-    ensures { λ r. ⌜ r ≡ eqb (bit c i) (bit c a) ⌝ }
-{
-    (c >> i) % 2 == (c >> a) % 2
-}
-
 // A weight, lowered by the four ax|yz, where x is on a's side and y is on the other.
 fn four(n: usize, entries: &[u32], a: usize, c: u64, x: usize, y: usize, z: usize, best: u32) -> u32
     requires { ⌜ Square n (now entries) × (a < n) × (x < n) × (y < n) × (z < n) ⌝ }
-    requires { ⌜ (eqb (bit c x) (bit c a) ≡ true) × (eqb (bit c y) (bit c a) ≡ false) ⌝ }
-    ensures { λ r. ⌜ r ≡ min (fourWith (distance n (now (entries .entry))) a c best x y z) best ⌝ }
+    requires { ⌜ (bit c x ≡ bit c a) × (bit c y ≢ bit c a) ⌝ }
+    ensures { λ r. ⌜ r ≡ min (fourOf (matrixSays (distance n (now (entries .entry))) a) a c best x y z) best ⌝ }
 {
     if same_side(c, a, z) {
         return best;
@@ -151,8 +143,8 @@ fn fours_with_xy(
     y: usize,
 ) -> u32
     requires { ⌜ Square n (now entries) × (k ≤ n) × (a < k) × (x < k) × (y < k) ⌝ }
-    requires { ⌜ eqb (bit c x) (bit c a) ≡ true ⌝ }
-    ensures { λ r. ⌜ r ≡ foursWithXY (distance n (now (entries .entry))) k a c w x y ⌝ }
+    requires { ⌜ bit c x ≡ bit c a ⌝ }
+    ensures { λ r. ⌜ r ≡ withXY (matrixSays (distance n (now (entries .entry))) a) k a c w x y ⌝ }
 {
     if same_side(c, a, y) {
         return w;
@@ -169,7 +161,7 @@ fn fours_with_xy(
 // A weight, lowered by the fours ax|yz with this x and any y and z.
 fn fours_with_x(n: usize, entries: &[u32], k: usize, a: usize, c: u64, w: u32, x: usize) -> u32
     requires { ⌜ Square n (now entries) × (k ≤ n) × (a < k) × (x < k) ⌝ }
-    ensures { λ r. ⌜ r ≡ foursWithX (distance n (now (entries .entry))) k a c w x ⌝ }
+    ensures { λ r. ⌜ r ≡ withX (matrixSays (distance n (now (entries .entry))) a) k a c w x ⌝ }
 {
     if !same_side(c, a, x) {
         return w;

@@ -1,22 +1,22 @@
--- A matrix, or a table, passes its checks exactly when it is as document 01 wants it. Assumes nothing.
+-- A matrix, or a table, passes its checks exactly when it is as document 01 wants it; what the first checks say of it. Assumes nothing.
 use Prim.Native.Nat.{ℕ, _+_, _*_, _/_, _%_, _≤_, _<_}
 use native.Mathlib.Omega.{arith}
 use native.Mathlib.Decide.{decLt}
 use native.Mathlib.Nat.{mod-lt, div-add-mod', div-lt-iff-lt-mul}
-use mathlib.Core.Path.{_≡_, refl, sym, _∙_, ap, ap₂}
-use mathlib.Core.Logic.{_↔_, Iff·trans}
+use mathlib.Core.Path.{_≡_, sym, _∙_, ap, ap₂}
+use mathlib.Core.Logic.{_↔_, _≢_, Iff·trans}
 use mathlib.Core.Bool.{Bool, true, false, not, _&&_, _||_}
-use mathlib.Core.List.{List}
+use mathlib.Core.List.{List, _∷_}
 use lib.Arith.{digits-lt, digits-div, digits-mod}
 use lib.Dec.{ltb, eqb}
 use lib.ListN.{length, getD}
-use borrow.Author.Tests.{ltb-false, lt-ltb, le-ltb, eqb-true, eq-eqb}
-use Rattle.statement.specs.declared.Outcome.the-variants.{Done}
+use borrow.Author.Tests.{ltb-false, lt-ltb, le-ltb, eqb-true, eq-eqb, ne-eqb}
+use Rattle.statement.specs.declared.Outcome.the-variants.{Done, Refused}
 use Rattle.statement.specs.Matrix.{distance, distanceLimit, AcceptedMatrix}
 use Rattle.statement.specs.Table.{choose, AcceptedTable}
-use Rattle.statement.specs.Refusals.{outcomeOf, Passed, AllPassed, single, taxaOff, lengthOff, diagonalOff, distanceOff, pairOff, matrixChecks, tableChecks}
+use Rattle.statement.specs.Refusals.{Check, outcomeOf, Passed, AllPassed, single, taxaOff, lengthOff, diagonalOff, distanceOff, pairOff, matrixChecks, tableChecks}
 use Rattle.statement.proofs.Tests.{same-is, not-less-is, neither-is, not-is, unless-is}
-use Rattle.statement.proofs.Refused.{accepted-exactly}
+use Rattle.statement.proofs.Refused.{first-passed, refused-single, accepted-exactly}
 
 -- a line whose place is always 0 is passed where its test is false
 pub single-passed : (number : ℕ) (b : Bool) → Passed (single number b) ↔ (b ≡ false)
@@ -27,6 +27,24 @@ taxa-passed n = Iff·trans (single-passed 1 (ltb n 2 || ltb 64 n)) (neither-is (
 
 pub length-passed : (a b : ℕ) → Passed (lengthOff (eqb a b)) ↔ (a ≡ b)
 length-passed a b = Iff·trans (single-passed 2 (not (eqb a b))) (not-is (same-is a b))
+
+-- THE FIRST CHECKS of an input with its n: of n, and of the input's length
+module _ (n : ℕ) (cs : List Check) where
+  pub too-few : n < 2 → outcomeOf (taxaOff n ∷ cs) ≡ Refused 1 0
+  too-few h = refused-single 1 (ltb n 2 || ltb 64 n) cs (rw (lt-ltb n 2 h))
+
+  pub too-many : 64 < n → outcomeOf (taxaOff n ∷ cs) ≡ Refused 1 0
+  too-many h = refused-single 1 (ltb n 2 || ltb 64 n) cs (rw (le-ltb n 2 (omega arith), lt-ltb 64 n h))
+
+  module _ (low : 2 ≤ n) (high : n ≤ 64) (len wanted : ℕ) where
+    past-taxa : outcomeOf (taxaOff n ∷ lengthOff (eqb len wanted) ∷ cs) ≡ outcomeOf (lengthOff (eqb len wanted) ∷ cs)
+    past-taxa = first-passed (taxaOff n) _ (taxa-passed n .1 (low, high))
+
+    pub wrong-length : len ≢ wanted → outcomeOf (taxaOff n ∷ lengthOff (eqb len wanted) ∷ cs) ≡ Refused 2 0
+    wrong-length h = past-taxa ∙ refused-single 2 (not (eqb len wanted)) cs (rw (ne-eqb len wanted h))
+
+    pub past-length : len ≡ wanted → outcomeOf (taxaOff n ∷ lengthOff (eqb len wanted) ∷ cs) ≡ outcomeOf cs
+    past-length h = past-taxa ∙ first-passed (lengthOff (eqb len wanted)) cs (length-passed len wanted .1 h)
 
 -- an entry of a matrix, by its row and column
 module _ (n : ℕ) (pn : 0 < n) (entries : List ℕ) where

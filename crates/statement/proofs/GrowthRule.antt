@@ -21,7 +21,7 @@ use Rattle.statement.proofs.Instances.{matrixRule}
 use Rattle.statement.proofs.Bits.{zero-or-one, bit-lt, bit-top, bit-none}
 use Rattle.statement.proofs.Grow.{of-new, new-of, alone-low}
 use Rattle.statement.proofs.Matrix.{above-zero, of-score}
-use Rattle.statement.proofs.Trial.{Parted}
+use Rattle.statement.proofs.Parts.{Parted}
 use Rattle.statement.proofs.Reached.{exactly, trial-reached}
 use Rattle.statement.proofs.Enlarged.{Plain, WellRows, weight-listed, candidate-clusters, start-alone, enlarged-exact, enlarged-well, enlarged-trial}
 use Rattle.statement.proofs.Ties.{across, apart, theMatrix, matrix-plain, theTable, table-plain, stands-above}

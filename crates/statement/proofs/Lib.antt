@@ -16,6 +16,8 @@ pub mod Full
 pub mod Reached
 pub mod Lowest
 pub mod Tests
+pub mod Lesser
+pub mod Parts
 pub mod Trial
 pub mod Refused
 pub mod Pairing

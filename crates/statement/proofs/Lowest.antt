@@ -3,25 +3,11 @@ use Prim.Native.Nat.{ℕ, zero, suc, _+_, _≤_, _<_}
 use native.Mathlib.Omega.{arith}
 use native.Mathlib.Decide.{decLt}
 use native.Mathlib.Nat.{le-antisymm}
-use mathlib.Core.Path.{_≡_, refl, sym, _∙_, ap, subst}
-use mathlib.Core.Bool.{Bool, true, false, cond, not, true≢false}
-use mathlib.Core.Logic.{_↔_}
-use lib.Dec.{ltb}
+use mathlib.Core.Path.{_≡_, refl, sym, _∙_, ap}
+use mathlib.Core.Bool.{Bool, true, false, cond, true≢false}
+use borrow.Author.Count.{below-none, below-more}
 use borrow.Author.Tests.{ltb-true, ltb-false, lt-ltb, le-ltb}
-use Rattle.statement.specs.Lowest.{lowestFrom, lowest, some, none}
-
--- one turn of a loop that looks for it
-pub lowest-here : (p : ℕ → Bool) (i m : ℕ) → p i ≡ true → lowestFrom p i (suc m) ≡ i
-unfolding lowestFrom
-lowest-here p i m e = rw e
-
-pub lowest-next : (p : ℕ → Bool) (i m : ℕ) → p i ≡ false → lowestFrom p i (suc m) ≡ lowestFrom p (suc i) m
-unfolding lowestFrom
-lowest-next p i m e = rw e
-
-pub lowest-end : (p : ℕ → Bool) (i : ℕ) → lowestFrom p i 0 ≡ i
-unfolding lowestFrom
-lowest-end p i = refl
+use Rattle.statement.specs.Lowest.{lowestFrom, lowest, some}
 
 -- WHAT IT IS: within its range, the test holds there, and nowhere before
 pub record Lowest (p : ℕ → Bool) (i m r : ℕ) : Type 0 where
@@ -54,6 +40,11 @@ lowest-unique p i m r s x y = go (decLt r s) (decLt s r)
     go (yes l) d = absurd (clash r s x y l)
     go (no l) (yes g) = absurd (clash s r y x g)
     go (no l) (no g) = omega arith
+
+-- it is at i where the test holds there and nowhere before
+pub lowest-at : (p : ℕ → Bool) (m i : ℕ) → i < m → p i ≡ true → ((j : ℕ) → j < i → p j ≡ false) → lowest p m ≡ i
+lowest-at p m i l e before =
+    lowest-unique p 0 m (lowest p m) i (lowest-is p 0 m) (record { from = omega arith; to = omega arith; hit = λ h. e; before = λ j a. before j })
 
 -- only the places looked at count
 pub lowest-same : (p q : ℕ → Bool) (i m : ℕ) → ((j : ℕ) → i ≤ j → j < i + m → p j ≡ q j) → lowestFrom p i m ≡ lowestFrom q i m
@@ -92,3 +83,22 @@ none-at p m f = go (decLt (lowest p m) m)
 -- where some place passes, the lowest one does; where none does it is the count
 pub lowest-none : (p : ℕ → Bool) (m : ℕ) → some p m ≡ false → lowest p m ≡ m
 lowest-none p m e = le-antisymm (let h = lowest-is p 0 m .to in omega arith) (ltb-false (lowest p m) m e)
+
+-- A LOOP that looks for it among the places below m, and has passed those below i
+pub record Looking (p : ℕ → Bool) (m i : ℕ) : Type 0 where
+  pub within : i ≤ m
+  pub passed : (j : ℕ) → j < i → p j ≡ false
+
+pub looking-begun : {p : ℕ → Bool} {m : ℕ} → Looking p m 0
+looking-begun = record { within = omega arith; passed = below-none _ }
+
+pub looking-on : {p : ℕ → Bool} {m i : ℕ} → Looking p m i → i < m → p i ≡ false → Looking p m (i + 1)
+looking-on k l e = record { within = omega arith; passed = below-more _ _ (k .passed) e }
+
+pub looking-found : {p : ℕ → Bool} {m i : ℕ} → Looking p m i → i < m → p i ≡ true → i ≡ lowest p m
+looking-found {p} {m} {i} k l e = sym (lowest-at p m i l e (k .passed))
+
+pub looking-ended : {p : ℕ → Bool} {m i : ℕ} → Looking p m i → m ≤ i → i ≡ lowest p m
+looking-ended {p} {m} {i} k l =
+    let e : i ≡ m = omega (arith, k .within) in
+    e ∙ sym (lowest-none p m (none-at p m (λ j h. k .passed j (omega arith))))

@@ -11,7 +11,8 @@ use lib.IntN.{ℤ, pos, negsuc}
 use lib.Signed.{_≤ℤ_, leZ}
 use Rattle.statement.specs.Cluster.{bit, In, Out, Split}
 use Rattle.statement.proofs.Rule.{Rule, Laws, Ok, Fours, New, Carried, Weight, Trial, Reached, Bare, WeightOf, Caps}
-use Rattle.statement.proofs.Trial.{Parted, Anchored, anchored-new}
+use Rattle.statement.proofs.Parts.{Parted}
+use Rattle.statement.proofs.Trial.{Anchored, anchored-new}
 use Rattle.statement.proofs.Bits.{zero-or-one}
 
 -- all below n, or one that is not

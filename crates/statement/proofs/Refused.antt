@@ -1,47 +1,58 @@
 -- EXACTLY WHEN, for every number of every call at once: an order of checks gives a number at a place exactly when the table says so. Assumes nothing.
-use Prim.Native.Nat.{ℕ, _<_}
+use Prim.Native.Nat.{ℕ, _≤_, _<_}
 use native.Mathlib.Omega.{arith}
 use mathlib.Core.Path.{_≡_, refl, sym, _∙_, ap}
 use mathlib.Core.Logic.{_↔_, _⊎_, inl, inr}
-use mathlib.Core.Bool.{Bool, true, false, cond, true≢false}
+use mathlib.Core.Bool.{Bool, true, false}
 use mathlib.Core.List.{List, [], _∷_}
-use borrow.Author.Tests.{ltb-true}
+use borrow.Author.Tests.{ltb-true, lt-ltb, le-ltb}
 use Rattle.statement.specs.declared.Outcome.{Outcome}
-use Rattle.statement.specs.declared.Outcome.the-variants.{Done, Short, Refused}
-use Rattle.statement.specs.Lowest.{lowest, some}
-use Rattle.statement.specs.Refusals.{numberOf, placeOf, Check, outcomeOf, Passed, Fails, AllPassed, Given}
-use Rattle.statement.proofs.Lowest.{Lowest, lowest-is, lowest-unique, some-at, none-of, none-at}
+use Rattle.statement.specs.declared.Outcome.the-variants.{Done, Refused}
+use Rattle.statement.specs.Lowest.{lowestFrom, lowest, some}
+use Rattle.statement.specs.Refusals.{numberOf, placeOf, Check, single, outcomeOf, Passed, Fails, AllPassed, Given}
+use Rattle.statement.proofs.Lowest.{lowest-is, lowest-at, lowest-none, none-of, none-at}
 
--- a check that fails does so at one place, its lowest
+-- ONE CHECK of an order, where r is its lowest bad place: it refuses there, or the next check has the say
+module _ (c : Check) (cs : List Check) (r : ℕ) (e : r ≡ lowest (c .bad) (c .places)) where
+  pub refused-at : r < c .places → outcomeOf (c ∷ cs) ≡ Refused (c .number) r
+  unfolding outcomeOf
+  refused-at h = rw (← e, lt-ltb r (c .places) h)
+
+  pub passed-at : c .places ≤ r → outcomeOf (c ∷ cs) ≡ outcomeOf cs
+  unfolding outcomeOf
+  passed-at h = rw (← e, le-ltb r (c .places) h)
+
+pub first-passed : (c : Check) (cs : List Check) → Passed c → outcomeOf (c ∷ cs) ≡ outcomeOf cs
+first-passed c cs p = passed-at c cs (c .places) (sym (lowest-none (c .bad) (c .places) (none-at (c .bad) (c .places) p))) (omega arith)
+
+-- the same for a check whose place is always 0
+module _ (number : ℕ) (bad : Bool) (cs : List Check) where
+  pub refused-single : bad ≡ true → outcomeOf (single number bad ∷ cs) ≡ Refused number 0
+  unfolding outcomeOf lowestFrom
+  refused-single e = rw e
+
+  pub passed-single : bad ≡ false → outcomeOf (single number bad ∷ cs) ≡ outcomeOf cs
+  passed-single e = first-passed (single number bad) cs (λ i l. e)
+
+pub none-left : outcomeOf [] ≡ Done
+unfolding outcomeOf
+none-left = refl
+
+-- WHOLE ORDERS. A check that fails does so at one place, its lowest
 fails-at : (c : Check) → some (c .bad) (c .places) ≡ true → Fails c (c .number) (lowest (c .bad) (c .places))
 fails-at c e =
     let h = ltb-true (lowest (c .bad) (c .places)) (c .places) e in
     let x = lowest-is (c .bad) 0 (c .places) in
     record { named = refl; within = h; bad = x .hit (omega arith); lowest = λ i l. x .before i (omega arith) l }
 
-fails-lowest : (c : Check) (number place : ℕ) → Fails c number place → lowest (c .bad) (c .places) ≡ place
-fails-lowest c number place f =
-    lowest-unique (c .bad) 0 (c .places) _ place (lowest-is (c .bad) 0 (c .places))
-    (record { from = omega arith; to = omega (arith, f .within); hit = λ h. f .bad; before = λ j a b. f .lowest j b })
-
--- the first check decides, where it finds a bad place
-first-fails : (c : Check) (cs : List Check) → some (c .bad) (c .places) ≡ true → outcomeOf (c ∷ cs) ≡ Refused (c .number) (lowest (c .bad) (c .places))
-unfolding outcomeOf
-first-fails c cs e = rw e
-
-pub first-passed : (c : Check) (cs : List Check) → Passed c → outcomeOf (c ∷ cs) ≡ outcomeOf cs
-unfolding outcomeOf
-first-passed c cs p = rw (none-at (c .bad) (c .places) p)
-
 pub given-refused : (checks : List Check) (number place : ℕ) → Given checks number place → outcomeOf checks ≡ Refused number place
 given-refused (c ∷ cs) number place (inl f) =
-    first-fails c cs (some-at (c .bad) (c .places) place (f .within) (f .bad))
-    ∙ ap (λ (m : ℕ). Refused m (lowest (c .bad) (c .places))) (f .named) ∙ ap (λ (p : ℕ). Refused number p) (fails-lowest c number place f)
+    refused-at c cs place (sym (lowest-at (c .bad) (c .places) place (f .within) (f .bad) (f .lowest))) (f .within)
+    ∙ ap (λ (m : ℕ). Refused m place) (f .named)
 given-refused (c ∷ cs) number place (inr (p, g)) = first-passed c cs p ∙ given-refused cs number place g
 
 pub passed-done : (checks : List Check) → AllPassed checks → outcomeOf checks ≡ Done
-unfolding outcomeOf
-passed-done [] p = refl
+passed-done [] p = none-left
 passed-done (c ∷ cs) p = first-passed c cs (p .0) ∙ passed-done cs (p .1)
 
 -- every order of checks ends one way or the other

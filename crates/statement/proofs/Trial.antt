@@ -1,9 +1,8 @@
 -- What a trial's answer means: a number from 1 on is at most the answer exactly when it is at most w and no asked four with the taxon a scores
 -- less. Assumes nothing.
-use Prim.Native.Nat.{ℕ, zero, suc, _≤_, _<_, min}
+use Prim.Native.Nat.{ℕ, suc, _≤_, _<_}
 use native.Mathlib.Omega.{arith}
-use native.Mathlib.Decide.{decLt}
-use mathlib.Core.Path.{_≡_, refl, sym, _∙_, ap, subst}
+use mathlib.Core.Path.{_≡_, refl, sym, ap, subst}
 use mathlib.Core.Logic.{_≢_, _↔_}
 use mathlib.Core.Bool.{Bool, true, false, cond, not, _&&_, _||_}
 use mathlib.Core.List.{List}
@@ -11,44 +10,23 @@ use lib.Dec.{eqb, leb→le, le→leb}
 use lib.ListN.{getD}
 use lib.IntN.{ℤ, pos, negsuc}
 use lib.Signed.{_≤ℤ_}
-use borrow.Author.Tests.{eqb-true, eqb-false, eq-eqb, ne-eqb}
+use borrow.Author.Tests.{eqb-true, eqb-false}
 use Rattle.statement.specs.Cluster.{bit}
 use Rattle.statement.specs.Table.{Pairing, stands, tableWeight}
-use Rattle.statement.specs.Growing.{lesser, partsAs, overFours, above, matrixTrial, tableTrial}
-use Rattle.statement.proofs.Rule.{Rule, Distinct, Ok, New, Meet, Trial}
+use Rattle.statement.specs.Growing.{lesser, overFours, above, matrixTrial, tableTrial}
+use Rattle.statement.proofs.Rule.{Rule, Distinct, Ok, New, Trial}
 use Rattle.statement.proofs.Instances.{matrixRule, placed, code, tableAt, tableRule}
 use Rattle.statement.proofs.Pairing.{pairing-is}
+use Rattle.statement.proofs.Lesser.{lesser-of, of-lesser}
+use Rattle.statement.proofs.Parts.{Says, matrixSays, tableSays, fourOf, withXY, withX, over-parts, Parted, parted-distinct, asked}
 
--- the lesser of w and some numbers
-pub lesser-of : (w t : ℕ) (f : ℕ → ℕ) (m : ℕ) → t ≤ lesser w f m → (t ≤ w) × ((i : ℕ) → i < m → t ≤ f i)
-unfolding lesser
-lesser-of w t f zero h = (h, λ i l. absurd (omega arith))
-lesser-of w t f (suc m) h = let p = lesser-of w t f m (omega arith) in (p .0, λ i l. go i l (decLt i m) (p .1))
-  where
-    go : (i : ℕ) → i < suc m → Dec (i < m) → ((j : ℕ) → j < m → t ≤ f j) → t ≤ f i
-    go i l (yes q) below = below i q
-    go i l (no q) below = let e : i ≡ m = omega arith in omega (arith, ap f e)
-
-pub of-lesser : (w t : ℕ) (f : ℕ → ℕ) (m : ℕ) → t ≤ w → ((i : ℕ) → i < m → t ≤ f i) → t ≤ lesser w f m
-unfolding lesser
-of-lesser w t f zero c h = c
-of-lesser w t f (suc m) c h = omega (arith, h m (omega arith), of-lesser w t f m c (λ i l. h i (omega arith)))
-
--- x is on a's side of c, y and z are on the other
-pub record Parted (c a x y z : ℕ) : Type 0 where
-  pub x-side : bit c x ≡ bit c a
-  pub y-side : bit c y ≢ bit c a
-  pub z-side : bit c z ≢ bit c a
-
--- what f says of a four, or w where it does not part so
-asked : (c a x y z v w t : ℕ) → (t ≤ cond (partsAs c a x y z) v w) → Parted c a x y z → t ≤ v
-asked c a x y z v w t h p = rw (eq-eqb (bit c x) (bit c a) (p .x-side), ne-eqb (bit c y) (bit c a) (p .y-side), ne-eqb (bit c z) (bit c a) (p .z-side)) at h
-
-unasked : (c a x y z v w t : ℕ) → t ≤ w → (Parted c a x y z → t ≤ v) → t ≤ cond (partsAs c a x y z) v w
-unasked c a x y z v w t l h = go (eqb (bit c x) (bit c a)) refl (eqb (bit c y) (bit c a)) refl (eqb (bit c z) (bit c a)) refl
+-- what is at most the weight, and at most what a four says where it is asked
+unasked : (f : Says) (a c w x y z t : ℕ) → t ≤ w → (Parted c a x y z → t ≤ f w x y z) → t ≤ fourOf f a c w x y z
+unfolding fourOf
+unasked f a c w x y z t l h = go (eqb (bit c x) (bit c a)) refl (eqb (bit c y) (bit c a)) refl (eqb (bit c z) (bit c a)) refl
   where
     go : (p : Bool) → eqb (bit c x) (bit c a) ≡ p → (q : Bool) → eqb (bit c y) (bit c a) ≡ q → (s : Bool) → eqb (bit c z) (bit c a) ≡ s
-        → t ≤ cond (p && (not q && not s)) v w
+        → t ≤ cond (p && (not q && not s)) (f w x y z) w
     go false ep q eq s es = l
     go true ep true eq s es = l
     go true ep false eq true es = l
@@ -58,38 +36,29 @@ unasked c a x y z v w t l h = go (eqb (bit c x) (bit c a)) refl (eqb (bit c y) (
 abbrev pub Anchored : Rule → ℕ → ℕ → ℕ → ℕ → Type 0
 Anchored r t n a c = (x y z : ℕ) → x < n → y < n → z < n → Parted c a x y z → Ok r t n c a x y z
 
--- THE MEANING, where f stands for the rule's scores
-module _ (r : Rule) (f : ℕ → ℕ → ℕ → ℕ) (n a c w : ℕ)
-    (agree : (t x y z : ℕ) → 1 ≤ t → t ≤ w → x < n → y < n → z < n → Parted c a x y z → (t ≤ f x y z) ↔ Ok r t n c a x y z) where
-  pub over-fours : (t : ℕ) → 1 ≤ t → (t ≤ overFours f n a c w) ↔ ((t ≤ w) × Anchored r t n a c)
-  unfolding overFours
-  over-fours t pt = (there, λ h. back (h .0) (h .1))
+-- THE MEANING, where what the fours say stands for the rule's scores
+module _ (r : Rule) (f : Says) (n a c w : ℕ)
+    (agree : (t x y z : ℕ) → 1 ≤ t → t ≤ w → x < n → y < n → z < n → Parted c a x y z → (t ≤ f w x y z) ↔ Ok r t n c a x y z) where
+  pub over-fours : (t : ℕ) → 1 ≤ t → (t ≤ overFours (f w) n a c w) ↔ ((t ≤ w) × Anchored r t n a c)
+  unfolding withX withXY
+  over-fours t pt = ((λ h. there (rw (← (over-parts f n a c w)) at h)), (λ h. rw (← (over-parts f n a c w)) (back (h .0) (h .1))))
     where
-      four : ℕ → ℕ → ℕ → ℕ
-      four x y z = cond (partsAs c a x y z) (f x y z) w
-
-      pair : ℕ → ℕ → ℕ
-      pair x y = lesser w (λ z. four x y z) n
-
-      one : ℕ → ℕ
-      one x = lesser w (λ y. pair x y) n
-
-      there : t ≤ lesser w (λ x. one x) n → (t ≤ w) × Anchored r t n a c
+      there : t ≤ lesser w (withX f n a c w) n → (t ≤ w) × Anchored r t n a c
       there h =
-          let p = lesser-of w t (λ x. one x) n h in (
+          let p = lesser-of w t (withX f n a c w) n h in (
             p .0,
             λ x y z lx ly lz parted.
-                let q = lesser-of w t (λ y. pair x y) n (p .1 x lx) in
-                let s = lesser-of w t (λ z. four x y z) n (q .1 y ly) in
-                agree t x y z pt (p .0) lx ly lz parted .0 (asked c a x y z (f x y z) w t (s .1 z lz) parted),
+                let q = lesser-of w t (withXY f n a c w x) n (p .1 x lx) in
+                let s = lesser-of w t (fourOf f a c w x y) n (q .1 y ly) in
+                agree t x y z pt (p .0) lx ly lz parted .0 (omega (arith, asked f a c w x y z parted, s .1 z lz)),
           )
 
-      back : t ≤ w → Anchored r t n a c → t ≤ lesser w (λ x. one x) n
+      back : t ≤ w → Anchored r t n a c → t ≤ lesser w (withX f n a c w) n
       back l h =
-          of-lesser w t (λ x. one x) n l
-          (λ x lx. of-lesser w t (λ y. pair x y) n l
-          (λ y ly. of-lesser w t (λ z. four x y z) n l
-          (λ z lz. unasked c a x y z (f x y z) w t l (λ parted. agree t x y z pt l lx ly lz parted .1 (h x y z lx ly lz parted)))))
+          of-lesser w t (withX f n a c w) n l
+          (λ x lx. of-lesser w t (withXY f n a c w x) n l
+          (λ y ly. of-lesser w t (fourOf f a c w x y) n l
+          (λ z lz. unasked f a c w x y z t l (λ parted. agree t x y z pt l lx ly lz parted .1 (h x y z lx ly lz parted)))))
 
 -- with the newcomer k for a, of a candidate of k + 1 taxa
 pub anchored-new : (r : Rule) (t k c : ℕ) → Anchored r t (suc k) k c ↔ New r t k c
@@ -117,9 +86,9 @@ above-is t (negsuc n) pt = ((λ h. absurd (omega arith)), (λ h. absurd (h .le))
 
 -- ON A MATRIX
 pub matrix-trial : (n : ℕ) (d : ℕ → ℕ → ℕ) (k a c w t : ℕ) → 1 ≤ t → (t ≤ matrixTrial d k a c w) ↔ ((t ≤ w) × Anchored (matrixRule n d) t k a c)
-unfolding matrixTrial
+unfolding matrixTrial matrixSays
 matrix-trial n d k a c w t pt =
-    over-fours (matrixRule n d) _ k a c w (λ s x y z ps l lx ly lz p.
+    over-fours (matrixRule n d) (matrixSays d a) k a c w (λ s x y z ps l lx ly lz p.
     let e = above-is s _ ps in ((λ h asked. e .0 h), (λ ok. e .1 (ok tt)))) t pt
 
 -- ON A TABLE: a four of different taxa stands in it, or scores nothing
@@ -127,32 +96,18 @@ pub stands-one : (bytes : List ℕ) (w x y z : ℕ) → Distinct w x y z → tab
 stands-one bytes w x y z d = ap (λ (p : Pairing). pos (cond (eqb (getD bytes (p .place) 0) (p .byte)) 1 0)) (sym (pairing-is w x y z d))
 
 pub table-trial : (n : ℕ) (bytes : List ℕ) (k a c w t : ℕ) → 1 ≤ t → (t ≤ tableTrial bytes k a c w) ↔ ((t ≤ w) × Anchored (tableRule n bytes) t k a c)
-unfolding tableTrial
-table-trial n bytes k a c w t pt = over-fours (tableRule n bytes) _ k a c w (λ s x y z ps l lx ly lz p. agree s x y z ps l p) t pt
+unfolding tableTrial tableSays
+table-trial n bytes k a c w t pt = over-fours (tableRule n bytes) (tableSays bytes a) k a c w (λ s x y z ps l lx ly lz p. agree s x y z ps l p) t pt
   where
-    value : ℕ → ℕ → ℕ → ℕ
-    value x y z = cond (eqb a x || eqb y z) w (cond (stands bytes a x y z) tableWeight 0)
-
-    agree : (s x y z : ℕ) → 1 ≤ s → s ≤ w → Parted c a x y z → (s ≤ value x y z) ↔ Ok (tableRule n bytes) s k c a x y z
+    agree : (s x y z : ℕ) → 1 ≤ s → s ≤ w → Parted c a x y z → (s ≤ tableSays bytes a w x y z) ↔ Ok (tableRule n bytes) s k c a x y z
     agree s x y z ps l p = go (eqb a x) refl (eqb y z) refl
       where
-        different : a ≢ x → y ≢ z → Distinct a x y z
-        different ax yz =
-            record {
-              wx = ax;
-              wy = λ e. p .y-side (ap (bit c) (sym e));
-              wz = λ e. p .z-side (ap (bit c) (sym e));
-              xy = λ e. p .y-side (ap (bit c) (sym e) ∙ p .x-side);
-              xz = λ e. p .z-side (ap (bit c) (sym e) ∙ p .x-side);
-              yz = yz;
-            }
-
         go : (i : Bool) → eqb a x ≡ i → (j : Bool) → eqb y z ≡ j
             → (s ≤ cond (i || j) w (cond (stands bytes a x y z) tableWeight 0)) ↔ Ok (tableRule n bytes) s k c a x y z
         go true ei j ej = ((λ h d. absurd (d .wx (eqb-true a x ei))), (λ ok. l))
         go false ei true ej = ((λ h d. absurd (d .yz (eqb-true y z ej))), (λ ok. l))
         go false ei false ej =
-            let d = different (eqb-false a x ei) (eqb-false y z ej) in
+            let d = parted-distinct p (eqb-false a x ei) (eqb-false y z ej) in
             let e = above-is s (pos (cond (stands bytes a x y z) tableWeight 0)) ps in (
               (λ h _. subst (λ (v : ℤ). pos s ≤ℤ v) (sym (stands-one bytes a x y z d)) (e .0 h)),
               (λ ok. e .1 (subst (λ (v : ℤ). pos s ≤ℤ v) (stands-one bytes a x y z d) (ok d))),

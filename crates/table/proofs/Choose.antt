@@ -44,7 +44,7 @@ absorb (suc p) (suc q) =
 pub choose-next : (p q : ℕ) → choose p q * (p - q) / suc q ≡ choose p (suc q)
 choose-next p q = div-eq-of-eq-mul-right (omega arith) (sym (absorb p q))
 
-pub choose-most : (p q : ℕ) → p ≤ 64 → choose p q ≤ 64 ^ q
+choose-most : (p q : ℕ) → p ≤ 64 → choose p q ≤ 64 ^ q
 unfolding choose
 choose-most p zero h = omega arith
 choose-most p (suc q) h =

@@ -1,4 +1,4 @@
+-- The root of the proofs.
 pub mod Choose
-pub mod Refused
 pub mod Standing
 pub mod Said

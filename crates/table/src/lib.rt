@@ -1,5 +1,6 @@
 // The table of resolved fours: its own checks, what it says of a pairing, and the trial of a split by its fours (document 01, "Table rule",
 // "Growing and the allowance", "Refusal numbers"). The table is lent as its bytes, one for each four of n taxa.
+use bits::same_side;
 use statement::Outcome;
 ghost use mathlib.Core.Path.{_≡_};
 ghost use mathlib.Core.Logic.{_≢_};
@@ -11,8 +12,8 @@ ghost use Rattle.statement.specs.Table.{choose, place, ordered, stands};
 ghost use Rattle.statement.specs.Lowest.{lowest};
 ghost use Rattle.statement.specs.Refusals.{outcomeOf, byteOff, tableChecks};
 ghost use Rattle.statement.specs.Growing.{tableTrial};
+ghost use Rattle.statement.proofs.Parts.{tableSays, fourOf, withXY, withX};
 ghost use Rattle.table.specs.Four.{Different, Sorted, InOrder};
-ghost use Rattle.table.specs.Says.{fourSays, threeSays, pairSays};
 
 // C(p,q), which is 0 if p < q.
 fn binomial(p: usize, q: usize) -> usize
@@ -57,10 +58,7 @@ fn lowest_above_three(bytes: &[u8]) -> usize
 pub fn check(n: usize, bytes: &[u8]) -> Outcome
     ensures { λ r. ⌜ r ≡ outcomeOf (tableChecks n (now (bytes .entry))) ⌝ }
 {
-    if n < 2 {
-        return Outcome::Refused(1, 0);
-    }
-    if 64 < n {
+    if n < 2 || n > 64 {
         return Outcome::Refused(1, 0);
     }
     if bytes.len() != fours(n) {
@@ -73,12 +71,12 @@ pub fn check(n: usize, bytes: &[u8]) -> Outcome
     Outcome::Done
 }
 
-// The place of the four a<b<c<d.
-fn place_of(a: usize, b: usize, c: usize, d: usize) -> usize
-    requires { ⌜ (a < b) × (b < c) × (c < d) × (d < 64) ⌝ }
-    ensures { λ r. ⌜ r ≡ place a b c d ⌝ }
+// The byte of the four a<b<c<d, at its place.
+fn byte_of(n: usize, bytes: &[u8], a: usize, b: usize, c: usize, d: usize) -> u8
+    requires { ⌜ (n ≤ 64) × (length (now bytes) ≡ choose n 4) × (a < b) × (b < c) × (c < d) × (d < n) ⌝ }
+    ensures { λ r. ⌜ r ≡ getD (now (bytes .entry)) (place a b c d) 0 ⌝ }
 {
-    a + binomial(b, 2) + binomial(c, 3) + binomial(d, 4)
+    bytes[a + binomial(b, 2) + binomial(c, 3) + binomial(d, 4)]
 }
 
 // Whether wx|yz stands in the table, for w<x, y<z and w<y.
@@ -87,15 +85,12 @@ fn ordered_stands(n: usize, bytes: &[u8], w: usize, x: usize, y: usize, z: usize
     ensures { λ r. ⌜ r ≡ eqb (getD (now (bytes .entry)) (ordered w x y z .place) 0) (ordered w x y z .byte) ⌝ }
 {
     if x < y {
-        let p = place_of(w, x, y, z);
-        return bytes[p] == 1;
+        return byte_of(n, bytes, w, x, y, z) == 1;
     }
     if x < z {
-        let p = place_of(w, y, x, z);
-        return bytes[p] == 2;
+        return byte_of(n, bytes, w, y, x, z) == 2;
     }
-    let p = place_of(w, y, z, x);
-    bytes[p] == 3
+    byte_of(n, bytes, w, y, z, x) == 3
 }
 
 // Two taxa, the lower first.
@@ -126,31 +121,20 @@ pub fn stands_in(n: usize, bytes: &[u8], w: usize, x: usize, y: usize, z: usize)
     ordered_stands(n, bytes, q.low, q.high, p.low, p.high)
 }
 
-// Whether i is on a's side of the split c.
-fn same_side(c: u64, a: usize, i: usize) -> bool
-    requires { ⌜ (a < 64) × (i < 64) ⌝ }
-    ensures { λ r. ⌜ r ≡ eqb (bit c i) (bit c a) ⌝ }
-{
-    (c >> i) % 2 == (c >> a) % 2
-}
-
-// The lesser of two weights.
-fn lesser_of(v: u32, w: u32) -> u32
-    ensures { λ r. ⌜ r ≡ min v w ⌝ }
-{
-    if v < w { v } else { w }
-}
-
-// What the four ax|yz says, where x is on a's side and y is not: only four different taxa count.
-fn four_says(n: usize, bytes: &[u8], a: usize, c: u64, w: u32, x: usize, y: usize, z: usize) -> u32
-    requires { ⌜ (n ≤ 64) × (length (now bytes) ≡ choose n 4) × (a < n) × (x < n) × (y < n) × (z < n) × (a ≢ x) × (bit c x ≡ bit c a) × (bit c y ≢ bit c a) ⌝ }
-    ensures { λ r. ⌜ r ≡ fourSays (now (bytes .entry)) a c w x y z ⌝ }
+// A weight, lowered by the four ax|yz, where x is on a's side and y is on the other: only four different taxa count.
+fn four(n: usize, bytes: &[u8], a: usize, c: u64, x: usize, y: usize, z: usize, best: u32) -> u32
+    requires { ⌜ (n ≤ 64) × (length (now bytes) ≡ choose n 4) × (a < n) × (x < n) × (y < n) × (z < n) ⌝ }
+    requires { ⌜ (a ≢ x) × (bit c x ≡ bit c a) × (bit c y ≢ bit c a) ⌝ }
+    ensures { λ r. ⌜ r ≡ min (fourOf (tableSays (now (bytes .entry)) a) a c best x y z) best ⌝ }
 {
     if same_side(c, a, z) {
-        return w;
+        return best;
     }
     if y == z {
-        return w;
+        return best;
+    }
+    if best == 0 {
+        return 0;
     }
     if stands_in(n, bytes, a, x, y, z) {
         return 1;
@@ -158,10 +142,20 @@ fn four_says(n: usize, bytes: &[u8], a: usize, c: u64, w: u32, x: usize, y: usiz
     0
 }
 
-// The lesser of w and what the fours of a, x and y say, where x is on a's side.
-fn three_says(n: usize, bytes: &[u8], k: usize, a: usize, c: u64, w: u32, x: usize, y: usize) -> u32
-    requires { ⌜ (n ≤ 64) × (length (now bytes) ≡ choose n 4) × (k ≤ n) × (a < k) × (x < k) × (y < k) × (a ≢ x) × (bit c x ≡ bit c a) ⌝ }
-    ensures { λ r. ⌜ r ≡ threeSays (now (bytes .entry)) k a c w x y ⌝ }
+// A weight, lowered by the fours ax|yz with this y and any z, where x is another taxon on a's side.
+fn fours_with_xy(
+    n: usize,
+    bytes: &[u8],
+    k: usize,
+    a: usize,
+    c: u64,
+    w: u32,
+    x: usize,
+    y: usize,
+) -> u32
+    requires { ⌜ (n ≤ 64) × (length (now bytes) ≡ choose n 4) × (k ≤ n) × (a < k) × (x < k) × (y < k) ⌝ }
+    requires { ⌜ (a ≢ x) × (bit c x ≡ bit c a) ⌝ }
+    ensures { λ r. ⌜ r ≡ withXY (tableSays (now (bytes .entry)) a) k a c w x y ⌝ }
 {
     if same_side(c, a, y) {
         return w;
@@ -169,16 +163,16 @@ fn three_says(n: usize, bytes: &[u8], k: usize, a: usize, c: u64, w: u32, x: usi
     let mut best = w;
     let mut z: usize = 0;
     while z < k {
-        best = lesser_of(four_says(n, bytes, a, c, w, x, y, z), best);
+        best = four(n, bytes, a, c, x, y, z, best);
         z += 1;
     }
     best
 }
 
-// The lesser of w and what the fours of a and x say.
-fn pair_says(n: usize, bytes: &[u8], k: usize, a: usize, c: u64, w: u32, x: usize) -> u32
+// A weight, lowered by the fours ax|yz with this x and any y and z.
+fn fours_with_x(n: usize, bytes: &[u8], k: usize, a: usize, c: u64, w: u32, x: usize) -> u32
     requires { ⌜ (n ≤ 64) × (length (now bytes) ≡ choose n 4) × (k ≤ n) × (a < k) × (x < k) ⌝ }
-    ensures { λ r. ⌜ r ≡ pairSays (now (bytes .entry)) k a c w x ⌝ }
+    ensures { λ r. ⌜ r ≡ withX (tableSays (now (bytes .entry)) a) k a c w x ⌝ }
 {
     if a == x {
         return w;
@@ -189,13 +183,13 @@ fn pair_says(n: usize, bytes: &[u8], k: usize, a: usize, c: u64, w: u32, x: usiz
     let mut best = w;
     let mut y: usize = 0;
     while y < k {
-        best = lesser_of(three_says(n, bytes, k, a, c, w, x, y), best);
+        best = fours_with_xy(n, bytes, k, a, c, best, x, y);
         y += 1;
     }
     best
 }
 
-// The trial of the split c of the first k taxa by its fours ax|yz that include the taxon a: the lesser of w and what they say.
+// A trial of the split c of the first k taxa, over its fours ax|yz: 0 where some four of different taxa does not stand, else the lesser of w and 1.
 pub fn trial(n: usize, bytes: &[u8], k: usize, a: usize, c: u64, w: u32) -> u32
     requires { ⌜ (n ≤ 64) × (length (now bytes) ≡ choose n 4) × (k ≤ n) × (a < k) ⌝ }
     ensures { λ r. ⌜ r ≡ tableTrial (now (bytes .entry)) k a c w ⌝ }
@@ -203,7 +197,7 @@ pub fn trial(n: usize, bytes: &[u8], k: usize, a: usize, c: u64, w: u32) -> u32
     let mut best = w;
     let mut x: usize = 0;
     while x < k {
-        best = lesser_of(pair_says(n, bytes, k, a, c, w, x), best);
+        best = fours_with_x(n, bytes, k, a, c, best, x);
         x += 1;
     }
     best

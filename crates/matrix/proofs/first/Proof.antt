@@ -1,23 +1,20 @@
--- `matrix::first` meets its contract. The loop's invariant: the lowest of the entries that remain is the lowest of all. Assumes nothing.
-use Prim.Native.Nat.{_*_, _-_, _≤_}
-use native.Mathlib.Omega.{arith}
-use mathlib.Core.Path.{_≡_, sym, _∙_}
+-- `matrix::first` meets its contract. The loop has passed no bad entry. Assumes nothing.
+use Prim.Native.Nat.{_*_, _-_}
+use mathlib.Core.Path.{sym, _∙_}
 use borrow.Author.Needs.{needs}
-use Rattle.statement.specs.Lowest.{lowestFrom, lowest}
+use Rattle.statement.proofs.Lowest.{Looking, looking-begun, looking-on, looking-found, looking-ended}
 use Rattle.matrix.specs.Entries.{entryCheck}
-use Rattle.matrix.proofs.Search.{begun, found, not-here, ended}
 use Rattle.matrix.proofs.first.Statement.{statement}
 use Rattle.matrix.proofs.first.Tie as tie
 
 abbrev Inv-loop : tie.InvT-loop
-Inv-loop number n entries e₀ e =
-    (e ≤ n * n) × (lowestFrom (entryCheck number n entries .bad) e (n * n - e) ≡ lowest (entryCheck number n entries .bad) (n * n))
+Inv-loop number n entries e₀ e = Looking (entryCheck number n entries .bad) (n * n) e
 
 abbrev μ-loop : tie.MeasureT-loop
 μ-loop number n entries e₀ e = n * n - e
 
 loop-holds : tie.Need-loop-holds Inv-loop μ-loop
-loop-holds c = (omega arith, begun _ _)
+loop-holds c = looking-begun
 
 mul-loop : tie.Need-mul-loop Inv-loop μ-loop
 mul-loop c = search needs
@@ -28,7 +25,7 @@ bad-requires c κs = search needs
 returns : tie.Need-returns Inv-loop μ-loop
 returns c =
     let called = c .before in
-    sym (found _ _ _ (called .before .loop-test .taken) (sym (called .bad .ensures) ∙ c .if1 .taken)) ∙ called .before .before .loop .inv .1
+    looking-found (called .before .before .loop .inv) (called .before .loop-test .taken) (sym (called .bad .ensures) ∙ c .if1 .taken)
 
 add-e : tie.Need-add-e Inv-loop μ-loop
 add-e c = search needs
@@ -39,10 +36,10 @@ loop-less c = search needs
 loop-again : tie.Need-loop-again Inv-loop μ-loop
 loop-again c =
     let called = c .before in
-    (omega arith, sym (not-here _ _ _ (called .before .loop-test .taken) (sym (called .bad .ensures) ∙ c .if1 .left)) ∙ called .before .before .loop .inv .1)
+    looking-on (called .before .before .loop .inv) (called .before .loop-test .taken) (sym (called .bad .ensures) ∙ c .if1 .left)
 
 returns-2 : tie.Need-returns-2 Inv-loop μ-loop
-returns-2 c = sym (ended _ _ _ (c .loop-test .left)) ∙ c .before .loop .inv .1
+returns-2 c = looking-ended (c .before .loop .inv) (c .loop-test .left)
 
 pub first-spec : {M : Type 1} → statement M
 first-spec =

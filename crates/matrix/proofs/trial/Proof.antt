@@ -1,24 +1,23 @@
--- `matrix::trial` meets its contract. The loop's invariant: the weight is lowered by the fours with an x passed. Assumes nothing.
-use Prim.Native.Nat.{_-_, _≤_}
+-- `matrix::trial` meets its contract: the loop has lowered the weight by the fours with an x passed. Assumes nothing.
+use Prim.Native.Nat.{_-_}
+use mathlib.Core.Path.{_∙_}
 use native.Mathlib.Omega.{arith}
-use mathlib.Core.Path.{_≡_}
 use borrow.Author.Needs.{needs}
 use Rattle.statement.specs.Matrix.{distance}
-use Rattle.statement.specs.Growing.{lesser, overFours, matrixTrial}
-use Rattle.matrix.specs.Fours.{foursWithX}
-use Rattle.matrix.proofs.Lesser.{lesser-none}
-use Rattle.matrix.proofs.Fours.{x-turn}
+use Rattle.statement.specs.Growing.{matrixTrial}
+use Rattle.statement.proofs.Lesser.{SoFar, lesser-begun, lesser-ended}
+use Rattle.statement.proofs.Parts.{matrixSays, withX, over-parts, matrix-steady, x-turn}
 use Rattle.matrix.proofs.trial.Statement.{statement}
 use Rattle.matrix.proofs.trial.Tie as tie
 
 abbrev Inv-loop : tie.InvT-loop
-Inv-loop n entries k a c w best₀ x₀ best x = (x ≤ k) × (best ≡ lesser w (foursWithX (distance n entries) k a c w) x)
+Inv-loop n entries k a c w best₀ x₀ best x = SoFar w (withX (matrixSays (distance n entries) a) k a c w) k x best
 
 abbrev μ-loop : tie.MeasureT-loop
 μ-loop n entries k a c w best₀ x₀ best x = k - x
 
 loop-holds : tie.Need-loop-holds Inv-loop μ-loop
-loop-holds c = (omega arith, lesser-none _ _)
+loop-holds c = lesser-begun
 
 fours-with-x-requires : tie.Need-fours-with-x-requires Inv-loop μ-loop
 fours-with-x-requires c κs = search needs
@@ -30,17 +29,11 @@ loop-less : tie.Need-loop-less Inv-loop μ-loop
 loop-less c = search needs
 
 loop-again : tie.Need-loop-again Inv-loop μ-loop
-loop-again c =
-    let l = c .before .before .loop in
-    let a = c .before .before .before .before .args in
-    (omega arith, x-turn (distance (a .n) (a .entries .now)) (a .k) (a .a) (a .c) (a .w) (l .x) _ _ (l .inv .1) (c .fours-with-x .ensures))
+loop-again c = x-turn _ (matrix-steady _ _) _ _ _ _ _ (c .before .before .loop .inv) (omega arith) (c .fours-with-x .ensures)
 
 returns : tie.Need-returns Inv-loop μ-loop
-unfolding matrixTrial overFours
-returns c =
-    let l = c .before .loop in
-    let e : l .x ≡ c .before .before .before .args .k = omega arith in
-    rw e at (l .inv .1)
+unfolding matrixTrial matrixSays
+returns c = lesser-ended (c .before .loop .inv) (c .loop-test .left) ∙ over-parts _ _ _ _ _
 
 pub trial-spec : {M : Type 1} → statement M
 trial-spec =

@@ -1,61 +1,36 @@
--- `table::ordered_stands` meets its contract: each place is below C(n,4), and each test picks one of the three pairings. Assumes nothing.
-use native.Mathlib.Omega.{arith}
-use mathlib.Core.Path.{sym}
+-- `table::ordered_stands` meets its contract: each test picks one of the three pairings. Assumes nothing.
 use borrow.Author.Needs.{needs}
-use Rattle.table.proofs.Choose.{place-below}
-use Rattle.table.proofs.Standing.{held-first, held-second, held-third}
+use borrow.Author.Tests.{lt-ltb, le-ltb}
+use Rattle.statement.specs.Table.{ordered}
 use Rattle.table.proofs.ordered_stands.Statement.{statement}
 use Rattle.table.proofs.ordered_stands.Tie as tie
 
-place-of-requires : tie.Need-place-of-requires
-place-of-requires c κs = search needs
-
-shared-slice-read-result : tie.Need-shared-slice-read-result
-shared-slice-read-result c =
-    let s = c .before .before .before .before .args in
-    omega (arith, place-below (s .w) (s .x) (s .y) (s .z) (s .n) (omega arith) (omega arith) (omega arith) (omega arith))
+byte-of-requires : tie.Need-byte-of-requires
+byte-of-requires c κs = search needs
 
 returns : tie.Need-returns
-returns c =
-    let s = c .before .before .before .before .args in
-    rw (c .before .place-of .ensures) (sym (held-first (s .bytes .now) (s .w) (s .x) (s .y) (s .z) (omega arith)))
+unfolding ordered
+returns c = let s = c .before .before .before .args in rw (c .byte-of .ensures, lt-ltb (s .x) (s .y) (c .before .if1 .taken))
 
-place-of-requires-2 : tie.Need-place-of-requires-2
-place-of-requires-2 c κs = search needs
-
-shared-slice-read-result-2 : tie.Need-shared-slice-read-result-2
-shared-slice-read-result-2 c =
-    let s = c .before .before .before .before .before .args in
-    omega (arith, place-below (s .w) (s .y) (s .x) (s .z) (s .n) (omega arith) (omega arith) (omega arith) (omega arith))
+byte-of-requires-2 : tie.Need-byte-of-requires-2
+byte-of-requires-2 c κs = search needs
 
 returns-2 : tie.Need-returns-2
+unfolding ordered
 returns-2 c =
-    let s = c .before .before .before .before .before .args in
-    rw (c .before .place-of2 .ensures) (sym (held-second (s .bytes .now) (s .w) (s .x) (s .y) (s .z) (omega arith) (omega arith)))
+    let s = c .before .before .before .before .args in
+    rw (c .byte-of2 .ensures, le-ltb (s .x) (s .y) (c .before .before .if1 .left), lt-ltb (s .x) (s .z) (c .before .if2 .taken))
 
-place-of-requires-3 : tie.Need-place-of-requires-3
-place-of-requires-3 c κs = search needs
-
-shared-slice-read-result-3 : tie.Need-shared-slice-read-result-3
-shared-slice-read-result-3 c =
-    let s = c .before .before .before .before .before .args in
-    omega (arith, place-below (s .w) (s .y) (s .z) (s .x) (s .n) (omega arith) (omega arith) (omega arith) (omega arith))
+byte-of-requires-3 : tie.Need-byte-of-requires-3
+byte-of-requires-3 c κs = search needs
 
 returns-3 : tie.Need-returns-3
+unfolding ordered
 returns-3 c =
-    let s = c .before .before .before .before .before .args in
-    rw (c .before .place-of3 .ensures) (sym (held-third (s .bytes .now) (s .w) (s .x) (s .y) (s .z) (omega arith) (omega arith)))
+    let s = c .before .before .before .before .args in
+    rw (c .byte-of3 .ensures, le-ltb (s .x) (s .y) (c .before .before .if1 .left), le-ltb (s .x) (s .z) (c .before .if2 .left))
 
 pub ordered-stands-spec : {M : Type 1} → statement M
 ordered-stands-spec =
     tie.close
-    (tie.spec
-    place-of-requires
-    shared-slice-read-result
-    returns
-    place-of-requires-2
-    shared-slice-read-result-2
-    returns-2
-    place-of-requires-3
-    shared-slice-read-result-3
-    returns-3)
+    (tie.spec byte-of-requires returns byte-of-requires-2 returns-2 byte-of-requires-3 returns-3)
