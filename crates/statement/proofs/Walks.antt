@@ -87,11 +87,11 @@ module _ (n : ℕ) (rows : List Row) (asc : Ascending 1 (2 ^ n) (clusters rows))
       go (yes h) = strictly-below i (linkOf n rows i) l h (low .hit (omega arith))
       go (no h) = omega arith
 
-  root-is : root (treeOf n rows) ≡ length rows
+  pub root-is : root (treeOf n rows) ≡ length rows
   unfolding treeOf
   root-is = length-map (numbers 0 (length rows)) (linkOf n rows) ∙ numbers-length 0 (length rows)
 
-  up-is : (v : ℕ) → v < length rows → up (treeOf n rows) v ≡ linkOf n rows v
+  pub up-is : (v : ℕ) → v < length rows → up (treeOf n rows) v ≡ linkOf n rows v
   unfolding treeOf
   up-is v l = map-at (linkOf n rows) 0 (length rows) v _ l ∙ ap (linkOf n rows) (omega arith)
 

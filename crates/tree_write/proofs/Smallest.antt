@@ -1,0 +1,125 @@
+-- Links and homes as document 01 says, "The tree": the smallest listed cluster strictly containing that of a row, and the smallest listed
+-- cluster containing a taxon. Of clusters without conflict that share a taxon, the one in the lower row is part of the other. Assumes nothing.
+use Prim.Native.Nat.{ℕ, suc, _^_, _≤_, _<_}
+use native.Mathlib.Omega.{arith}
+use native.Mathlib.Decide.{decLt}
+use mathlib.Core.Path.{_≡_, refl, sym, _∙_, ap}
+use mathlib.Core.Logic.{_⊎_, inl, inr, _↔_, _≢_, Iff·trans}
+use mathlib.Core.Bool.{Bool, true, false, not, _&&_, true≢false}
+use mathlib.Core.List.{List}
+use lib.Dec.{eqb}
+use lib.ListN.{length, getD, length-map}
+use borrow.Author.Tests.{eqb-true, eqb-false, eq-eqb, ne-eqb, not-true}
+use Rattle.statement.specs.Cluster.{bit, In, Out}
+use Rattle.statement.specs.Lowest.{lowest, some, none}
+use Rattle.statement.specs.Rows.{Row, clusters}
+use Rattle.statement.specs.Tree.{clusterAt, strictlyIn, linkOf, homeOf}
+use Rattle.statement.proofs.Bits.{zero-or-one, bit-none, lt-bit}
+use Rattle.statement.proofs.Listed.{asc-mem, asc-getD, mem-getD}
+use Rattle.statement.proofs.Lowest.{Lowest, lowest-is}
+use Rattle.statement.proofs.Tests.{same-is, both-is, none-is, unless-is}
+use Rattle.statement.proofs.Answer.{Clean}
+
+-- every taxon below n of the group a is in the group b; strictly, where the two differ
+abbrev pub Part : ℕ → ℕ → ℕ → Type 0
+Part n a b = (t : ℕ) → t < n → In a t → In b t
+
+pub record Strictly (n a b : ℕ) : Type 0 where
+  pub part : Part n a b
+  pub other : a ≢ b
+
+-- row r has THE SMALLEST LISTED CLUSTER that something holds of: it holds there, and every listed cluster that it holds of contains that one;
+-- r is the root where it holds of none
+pub record Smallest (n : ℕ) (rows : List Row) (Holds : ℕ → Type 0) (r : ℕ) : Type 0 where
+  pub to : r ≤ length rows
+  pub holds : r < length rows → Holds (clusterAt rows r)
+  pub least : (j : ℕ) → j < length rows → Holds (clusterAt rows j) → (r ≤ j) × Part n (clusterAt rows r) (clusterAt rows j)
+
+abbrev pub LinkSmallest : ℕ → List Row → ℕ → Type 0
+LinkSmallest n rows i = Smallest n rows (Strictly n (clusterAt rows i)) (linkOf n rows i)
+
+abbrev pub HomeSmallest : ℕ → List Row → ℕ → Type 0
+HomeSmallest n rows taxon = Smallest n rows (λ c. In c taxon) (homeOf rows taxon)
+
+-- the test for "strictly in" says just that
+pub strictly-is : (n a b : ℕ) → (strictlyIn n a b ≡ true) ↔ Strictly n a b
+strictly-is n a b = (λ e. record { part = λ t l h. all .0 e .0 t l (eq-eqb (bit a t) 1 h); other = eqb-false a b (not-true _ (all .0 e .1)) }, λ h. all .1 (λ t l e. h .part t l (eqb-true (bit a t) 1 e), ap not (ne-eqb a b (h .other))))
+  where
+    out-not : (t : ℕ) → (eqb (bit b t) 0 ≡ false) ↔ In b t
+    out-not t = (λ e. at e (zero-or-one b t), λ h. ne-eqb (bit b t) 0 (λ o. omega arith))
+      where
+        at : eqb (bit b t) 0 ≡ false → Out b t ⊎ In b t → In b t
+        at e (inl o) = absurd (eqb-false (bit b t) 0 e o)
+        at e (inr h) = h
+
+    turned : (x : Bool) → (not x ≡ true) ↔ (x ≡ false)
+    turned x = (not-true x, ap not)
+
+    all : (strictlyIn n a b ≡ true) ↔ (((t : ℕ) → t < n → eqb (bit a t) 1 ≡ true → In b t) × (not (eqb a b) ≡ true))
+    all =
+        both-is
+        (Iff·trans (turned (some (λ i. eqb (bit a i) 1 && eqb (bit b i) 0) n))
+        (none-is (λ i. eqb (bit a i) 1 && eqb (bit b i) 0) n (λ t. unless-is (eqb (bit a t) 1) (out-not t))))
+        (λ e. e, λ e. e)
+
+-- ROWS WITHOUT CONFLICT
+module _ (n : ℕ) (rows : List Row) (clean : Clean n (clusters rows)) where
+  count : length (clusters rows) ≡ length rows
+  count = length-map rows (λ r. r .cluster)
+
+  pub cluster-range : (i : ℕ) → i < length rows → (1 ≤ clusterAt rows i) × (clusterAt rows i < 2 ^ n)
+  cluster-range i l = asc-mem 1 (2 ^ n) (clusters rows) (clean .up) (clusterAt rows i) (mem-getD (clusters rows) i (omega (arith, count)))
+
+  pub ascending : (i j : ℕ) → i < j → j < length rows → clusterAt rows i < clusterAt rows j
+  ascending i j l lj = asc-getD 1 (2 ^ n) (clusters rows) (clean .up) i j l (omega (arith, count))
+
+  pub free-at : (i : ℕ) → i < length rows → Out (clusterAt rows i) 0
+  free-at i l = clean .free (clusterAt rows i) (mem-getD (clusters rows) i (omega (arith, count)))
+
+  -- two clusters that share a taxon: the one in the lower row is part of the other
+  pub nested : (a b t : ℕ) → a ≤ b → b < length rows → t < n → In (clusterAt rows a) t → In (clusterAt rows b) t → Part n (clusterAt rows a) (clusterAt rows b)
+  nested a b t le lb lt ia ib i li h = at (zero-or-one (clusterAt rows b) i) (decLt a b)
+    where
+      at : Out (clusterAt rows b) i ⊎ In (clusterAt rows b) i → Dec (a < b) → In (clusterAt rows b) i
+      at (inr k) d = k
+      at (inl o) (no g) = let e : a ≡ b = omega arith in absurd (omega (arith, ap (λ (x : ℕ). bit (clusterAt rows x) i) e))
+      at (inl o) (yes g) =
+          let (j, lj, oj, ij) = lt-bit n (clusterAt rows a) (clusterAt rows b) (ascending a b g lb) (cluster-range b lb .1) in
+          absurd
+          (clean .clean (clusterAt rows a) (clusterAt rows b) (mem-getD (clusters rows) a (omega (arith, count))) (mem-getD (clusters rows) b (omega (arith, count)))
+          (record {
+            ii = (t, lt, ia, ib);
+            io = (i, li, h, o);
+            oi = (j, lj, oj, ij);
+            oo = (0, omega arith, free-at a (omega arith), free-at b lb);
+          }))
+
+  -- so the lowest row of those that share a taxon has the smallest cluster
+  smallest-lowest : (Holds : ℕ → Type 0) (p : ℕ → Bool) (t : ℕ) → t < n → ((j : ℕ) → (p j ≡ true) ↔ Holds (clusterAt rows j))
+      → ((c : ℕ) → Holds c → In c t) → Smallest n rows Holds (lowest p (length rows))
+  smallest-lowest Holds p t l test shared =
+      let low = lowest-is p 0 (length rows) in
+      let here : lowest p (length rows) < length rows → Holds (clusterAt rows (lowest p (length rows))) = λ h. test (lowest p (length rows)) .0 (low .hit (omega arith)) in
+      record {
+        to = omega (arith, low .to);
+        holds = here;
+        least = λ j lj h. let le : lowest p (length rows) ≤ j = before j h (decLt j (lowest p (length rows))) in
+            (le, nested (lowest p (length rows)) j t le lj l (shared _ (here (omega arith))) (shared _ h));
+      }
+    where
+      before : (j : ℕ) → Holds (clusterAt rows j) → Dec (j < lowest p (length rows)) → lowest p (length rows) ≤ j
+      before j h (yes g) = absurd (true≢false (sym (test j .1 h) ∙ lowest-is p 0 (length rows) .before j (omega arith) g))
+      before j h (no g) = omega arith
+
+  pub link-smallest : (i : ℕ) → i < length rows → LinkSmallest n rows i
+  unfolding linkOf
+  link-smallest i l =
+      let (t, lt, o, h) = lt-bit n 0 (clusterAt rows i) (cluster-range i l .0) (cluster-range i l .1) in
+      smallest-lowest (Strictly n (clusterAt rows i)) (λ j. strictlyIn n (clusterAt rows i) (clusterAt rows j)) t lt
+      (λ j. strictly-is n (clusterAt rows i) (clusterAt rows j)) (λ c s. s .part t lt h)
+
+  pub home-smallest : (taxon : ℕ) → taxon < n → HomeSmallest n rows taxon
+  unfolding homeOf
+  home-smallest taxon l =
+      smallest-lowest (λ c. In c taxon) (λ j. eqb (bit (clusterAt rows j) taxon) 1) taxon l
+      (λ j. same-is (bit (clusterAt rows j) taxon) 1) (λ c h. h)
