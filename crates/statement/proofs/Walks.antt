@@ -95,7 +95,7 @@ module _ (n : ℕ) (rows : List Row) (asc : Ascending 1 (2 ^ n) (clusters rows))
   unfolding treeOf
   up-is v l = map-at (linkOf n rows) 0 (length rows) v _ l ∙ ap (linkOf n rows) (omega arith)
 
-  up-root : (v : ℕ) → length rows ≤ v → up (treeOf n rows) v ≡ length rows
+  pub up-root : (v : ℕ) → length rows ≤ v → up (treeOf n rows) v ≡ length rows
   unfolding treeOf
   up-root v l = List·getD-eq-default (map (linkOf n rows) (numbers 0 (length rows))) (root (treeOf n rows)) (omega (arith, root-is)) ∙ root-is
 

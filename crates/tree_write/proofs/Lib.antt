@@ -1,2 +1,4 @@
 pub mod Smallest
 pub mod Clusters
+pub mod Body
+pub mod Trip
