@@ -12,7 +12,7 @@ use borrow.Author.Tests.{eqb-true, eqb-false, eq-eqb, not-true}
 use Rattle.statement.specs.Cluster.{bit, In, Out}
 use Rattle.statement.specs.Lowest.{lowest, some}
 use Rattle.statement.specs.Rows.{Row, clusters, Ascending, Listed}
-use Rattle.statement.specs.Tree.{numbers, Tree, root, clusterAt, strictlyIn, linkOf, treeOf, up, walk, onWalk}
+use Rattle.statement.specs.Tree.{numbers, Tree, root, clusterAt, strictlyIn, linkOf, homeOf, treeOf, up, walk, onWalk}
 use Rattle.statement.proofs.Bits.{zero-or-one}
 use Rattle.statement.proofs.Listed.{asc-getD, asc-mem, mem-getD}
 use Rattle.statement.proofs.Lowest.{Lowest, lowest-is, none-of}
@@ -36,6 +36,25 @@ unfolding numbers
 map-at f i zero j other l = absurd (omega arith)
 map-at f i (suc m) zero other l = ap f (omega arith)
 map-at f i (suc m) (suc j) other l = map-at f (suc i) m j other (omega arith) ∙ ap f (omega arith)
+
+-- the tree of a list has a vertex for each row and its root above them; a step up goes to the link
+pub root-is : (n : ℕ) (rows : List Row) → root (treeOf n rows) ≡ length rows
+unfolding treeOf
+root-is n rows = length-map (numbers 0 (length rows)) (linkOf n rows) ∙ numbers-length 0 (length rows)
+
+pub link-is : (n : ℕ) (rows : List Row) (v other : ℕ) → v < length rows → getD (treeOf n rows .links) v other ≡ linkOf n rows v
+unfolding treeOf
+link-is n rows v other l = map-at (linkOf n rows) 0 (length rows) v other l ∙ ap (linkOf n rows) (omega arith)
+
+pub home-is : (n : ℕ) (rows : List Row) (taxon : ℕ) → taxon < n → getD (treeOf n rows .homes) taxon 0 ≡ homeOf rows taxon
+unfolding treeOf
+home-is n rows taxon l = map-at (homeOf rows) 0 n taxon 0 l ∙ ap (homeOf rows) (omega arith)
+
+pub up-is : (n : ℕ) (rows : List Row) (v : ℕ) → v < length rows → up (treeOf n rows) v ≡ linkOf n rows v
+up-is n rows v l = link-is n rows v (root (treeOf n rows)) l
+
+pub up-root : (n : ℕ) (rows : List Row) (v : ℕ) → length rows ≤ v → up (treeOf n rows) v ≡ length rows
+up-root n rows v l = List·getD-eq-default (treeOf n rows .links) (root (treeOf n rows)) (omega (arith, root-is n rows)) ∙ root-is n rows
 
 module _ (n : ℕ) (rows : List Row) (asc : Ascending 1 (2 ^ n) (clusters rows)) where
   count : length (clusters rows) ≡ length rows
@@ -87,18 +106,6 @@ module _ (n : ℕ) (rows : List Row) (asc : Ascending 1 (2 ^ n) (clusters rows))
       go (yes h) = strictly-below i (linkOf n rows i) l h (low .hit (omega arith))
       go (no h) = omega arith
 
-  pub root-is : root (treeOf n rows) ≡ length rows
-  unfolding treeOf
-  root-is = length-map (numbers 0 (length rows)) (linkOf n rows) ∙ numbers-length 0 (length rows)
-
-  pub up-is : (v : ℕ) → v < length rows → up (treeOf n rows) v ≡ linkOf n rows v
-  unfolding treeOf
-  up-is v l = map-at (linkOf n rows) 0 (length rows) v _ l ∙ ap (linkOf n rows) (omega arith)
-
-  pub up-root : (v : ℕ) → length rows ≤ v → up (treeOf n rows) v ≡ length rows
-  unfolding treeOf
-  up-root v l = List·getD-eq-default (map (linkOf n rows) (numbers 0 (length rows))) (root (treeOf n rows)) (omega (arith, root-is)) ∙ root-is
-
   -- so a walk of as many steps as remain ends at the root
   walk-ends : (s v : ℕ) → v ≤ length rows → length rows ≤ s + v → walk (treeOf n rows) s v ≡ length rows
   unfolding walk
@@ -109,9 +116,9 @@ module _ (n : ℕ) (rows : List Row) (asc : Ascending 1 (2 ^ n) (clusters rows))
           → walk (treeOf n rows) s (up (treeOf n rows) v) ≡ length rows
       go (yes k) ih =
           let q = link-later v k in
-          ap (walk (treeOf n rows) s) (up-is v k) ∙ ih (linkOf n rows v) (q .1) (omega (arith, q .0))
-      go (no k) ih = ap (walk (treeOf n rows) s) (up-root v (omega arith)) ∙ ih (length rows) (omega arith) (omega arith)
+          ap (walk (treeOf n rows) s) (up-is n rows v k) ∙ ih (linkOf n rows v) (q .1) (omega (arith, q .0))
+      go (no k) ih = ap (walk (treeOf n rows) s) (up-root n rows v (omega arith)) ∙ ih (length rows) (omega arith) (omega arith)
 
   -- EVERY WALK UP THE TREE OF A LIST ENDS AT ITS ROOT
   pub walks-end : (v : ℕ) → v ≤ length rows → walk (treeOf n rows) (length rows) v ≡ root (treeOf n rows)
-  walks-end v l = walk-ends (length rows) v l (omega arith) ∙ sym root-is
+  walks-end v l = walk-ends (length rows) v l (omega arith) ∙ sym (root-is n rows)

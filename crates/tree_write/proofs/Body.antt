@@ -6,11 +6,12 @@ use native.Mathlib.Decide.{decLt}
 use mathlib.Core.Path.{_≡_, refl, sym, _∙_, ap, ap₂}
 use mathlib.Core.Logic.{inl, inr}
 use mathlib.Core.List.{List, [], _∷_, _++_, append-assoc}
-use lib.ListN.{length, take, drop, getD, length-append, List·getD-append}
+use lib.ListN.{length, take, drop, getD, length-append, length-map, List·getD-append}
 use lib.Seq.{take-at, drop-at, getD-append-add}
-use Rattle.statement.specs.Rows.{Mem}
-use Rattle.statement.specs.Tree.{Tree, root}
+use Rattle.statement.specs.Rows.{Row, Mem}
+use Rattle.statement.specs.Tree.{numbers, Tree, root, homeOf, treeOf}
 use Rattle.statement.specs.Bytes.{fourBytes, fromFour, toBytes, fromBytes, treeBody, treeIn, treeLength}
+use Rattle.statement.proofs.Walks.{numbers-length, root-is}
 
 -- words of four bytes: a word holds a number below 2 ^ 32
 pub four-back : (w : ℕ) → w < 2 ^ 32 → fromFour (w % 256) (w / 256 % 256) (w / 65536 % 256) (w / 16777216 % 256) ≡ w
@@ -36,9 +37,16 @@ pub record Sized (n : ℕ) (t : Tree) : Type 0 where
   pub homes : length (t .homes) ≡ n
   pub weights : length (t .weights) ≡ root t
 
+pub tree-size : (n : ℕ) (rows : List Row) → Sized n (treeOf n rows)
+unfolding treeOf
+tree-size n rows = record {
+  homes = length-map (numbers 0 n) (homeOf rows) ∙ numbers-length 0 n;
+  weights = length-map rows (λ r. r .weight) ∙ sym (root-is n rows);
+}
+
 module _ (n : ℕ) (t : Tree) (size : Sized n t) where
   -- links and homes stand side by side behind the first byte
-  sides : length (t .links ++ t .homes) ≡ root t + n
+  pub sides : length (t .links ++ t .homes) ≡ root t + n
   sides = length-append (t .links) (t .homes) ∙ ap (λ (k : ℕ). root t + k) (size .homes)
 
   pub body-length : length (treeBody t) ≡ treeLength n (root t)

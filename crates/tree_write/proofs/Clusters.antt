@@ -17,18 +17,11 @@ use Rattle.statement.specs.Tree.{numbers, Tree, root, clusterAt, linkOf, homeOf
 use Rattle.statement.proofs.Bits.{zero-or-one, bit-ext}
 use Rattle.statement.proofs.Groups.{group-below, group-bit}
 use Rattle.statement.proofs.Lowest.{some-at, none-at}
-use Rattle.statement.proofs.Walks.{map-at, link-later, root-is, up-is, up-root}
+use Rattle.statement.proofs.Walks.{root-is, home-is, up-is, up-root, link-later}
 use Rattle.statement.proofs.Answer.{Clean}
 use Rattle.tree_write.proofs.Smallest.{Strictly, Smallest, link-smallest, home-smallest, cluster-range, ascending, nested}
 
 module _ (n : ℕ) (rows : List Row) (clean : Clean n (clusters rows)) where
-  pub root-of : root (treeOf n rows) ≡ length rows
-  root-of = root-is n rows (clean .up)
-
-  pub home-of : (i : ℕ) → i < n → getD (treeOf n rows .homes) i 0 ≡ homeOf rows i
-  unfolding treeOf
-  home-of i l = map-at (homeOf rows) 0 n i 0 l ∙ ap (homeOf rows) (omega arith)
-
   module _ (i : ℕ) (li : i < n) where
     -- a vertex below which taxon i may be at home: the root, or one whose cluster holds i
     abbrev Holder : ℕ → Type 0
@@ -39,9 +32,9 @@ module _ (n : ℕ) (rows : List Row) (clean : Clean n (clusters rows)) where
       where
         at : Dec (v < length rows) → In (clusterAt rows (up (treeOf n rows) v)) i
         at (yes l) =
-            let e = up-is n rows (clean .up) v l in
+            let e = up-is n rows v l in
             rw e (link-smallest n rows clean v l .holds (omega arith) .part i li (h l))
-        at (no l) = absurd (omega (arith, up-root n rows (clean .up) v (omega arith)))
+        at (no l) = absurd (omega (arith, up-root n rows v (omega arith)))
 
     walk-holds : (s v : ℕ) → Holder v → Holder (walk (treeOf n rows) s v)
     unfolding walk
@@ -51,7 +44,7 @@ module _ (n : ℕ) (rows : List Row) (clean : Clean n (clusters rows)) where
     -- a step to the link, then s steps more
     one-more : (s a v : ℕ) → a < length rows → walk (treeOf n rows) s (linkOf n rows a) ≡ v → walk (treeOf n rows) (suc s) a ≡ v
     unfolding walk
-    one-more s a v l e = rw (up-is n rows (clean .up) a l) e
+    one-more s a v l e = rw (up-is n rows a l) e
 
     -- the walk up from a vertex whose cluster holds i comes by every later one that does
     passes : (f a v : ℕ) → v ≤ a + f → a ≤ v → v < length rows → In (clusterAt rows a) i → In (clusterAt rows v) i
@@ -86,7 +79,7 @@ module _ (n : ℕ) (rows : List Row) (clean : Clean n (clusters rows)) where
         at (inr h) =
             let (close, sub) = home-smallest n rows clean i li .least v lv h in
             let (s, few, e) = passes v (homeOf rows i) v (omega arith) close lv (home-holds (omega arith)) h in
-            some-at (λ s. eqb (walk (treeOf n rows) s (homeOf rows i)) v) (suc (root (treeOf n rows))) s (omega (arith, root-of)) (eq-eqb _ v e)
+            some-at (λ s. eqb (walk (treeOf n rows) s (homeOf rows i)) v) (suc (root (treeOf n rows))) s (omega (arith, root-is n rows)) (eq-eqb _ v e)
             ∙ sym (eq-eqb (bit (clusterAt rows v) i) 1 h)
         at (inl o) =
             none-at (λ s. eqb (walk (treeOf n rows) s (homeOf rows i)) v) (suc (root (treeOf n rows)))
@@ -105,7 +98,7 @@ module _ (n : ℕ) (rows : List Row) (clean : Clean n (clusters rows)) where
       test = λ taxon. onWalk (treeOf n rows) (getD (treeOf n rows .homes) taxon 0) v
 
       says : (i : ℕ) → i < n → test i ≡ eqb (bit (clusterAt rows v) i) 1
-      says i li = ap (λ (h : ℕ). onWalk (treeOf n rows) h v) (home-of i li) ∙ on-walk-home i li v lv
+      says i li = ap (λ (h : ℕ). onWalk (treeOf n rows) h v) (home-is n rows i li) ∙ on-walk-home i li v lv
 
       back : (i : ℕ) → cond (eqb (bit (clusterAt rows v) i) 1) 1 0 ≡ bit (clusterAt rows v) i
       back i = at (zero-or-one (clusterAt rows v) i)
@@ -132,7 +125,7 @@ sort-ascending low high (r ∷ (x ∷ xs)) asc =
 pub list-tree-list : (n : ℕ) (rows : List Row) → Clean n (clusters rows) → rowsOfTree n (treeOf n rows) ≡ rows
 unfolding rowsOfTree treeOf
 list-tree-list n rows clean =
-    ap (λ (m : ℕ). sortRows (map edge (numbers 0 m))) (root-of n rows clean)
+    ap (λ (m : ℕ). sortRows (map edge (numbers 0 m))) (root-is n rows)
     ∙ ap sortRows (map-places edge (row 0 0) 0 rows same) ∙ sort-ascending 1 (2 ^ n) rows (clean .up)
   where
     edge : ℕ → Row

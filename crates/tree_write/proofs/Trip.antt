@@ -15,7 +15,7 @@ use Rattle.statement.specs.declared.Outcome.the-variants.{Done}
 use Rattle.statement.specs.Cluster.{bit}
 use Rattle.statement.specs.Matrix.{weightLimit}
 use Rattle.statement.specs.Rows.{Row, clusters, weights, Mem, listOf}
-use Rattle.statement.specs.Tree.{numbers, Tree, root, clusterAt, linkOf, homeOf, treeOf, walk, onWalk, clusterOf, rowsOfTree}
+use Rattle.statement.specs.Tree.{Tree, root, clusterAt, linkOf, homeOf, treeOf, walk, onWalk, clusterOf, rowsOfTree}
 use Rattle.statement.specs.Bytes.{treeBody, treeIn, treeLength}
 use Rattle.statement.specs.Refusals.{
   Passed,
@@ -36,13 +36,16 @@ use Rattle.statement.specs.Calls.{readTree}
 use Rattle.statement.proofs.Listed.{mem-getD}
 use Rattle.statement.proofs.Lowest.{some-at, none-at}
 use Rattle.statement.proofs.Tests.{same-is, neither-is, not-is, fails-is, none-is, not-less-is, unless-is}
-use Rattle.statement.proofs.Walks.{numbers-length, map-at, link-later, walks-end}
+use Rattle.statement.proofs.Walks.{root-is, link-is, home-is, link-later, walks-end}
 use Rattle.statement.proofs.Enlarged.{WellRows}
 use Rattle.statement.proofs.Run.{rows-few}
 use Rattle.statement.proofs.Refused.{passed-done}
 use Rattle.tree_write.proofs.Smallest.{home-smallest, cluster-range, ascending, free-at}
-use Rattle.tree_write.proofs.Clusters.{root-of, home-of, cluster-of-list, list-tree-list}
-use Rattle.tree_write.proofs.Body.{Sized, body-length, body-vertex, vertices-within, tree-in-body}
+use Rattle.tree_write.proofs.Clusters.{cluster-of-list, list-tree-list}
+use Rattle.tree_write.proofs.Body.{Sized, tree-size, body-length, body-vertex, vertices-within, tree-in-body}
+
+pub taxa-passed : (n : ℕ) → 2 ≤ n → n ≤ 64 → Passed (taxaOff n)
+taxa-passed n two few i l = neither-is (not-less-is n 2) (not-less-is 64 n) .1 (two, few)
 
 module _ (n : ℕ) (rows : List Row) (two : 2 ≤ n) (few : n ≤ 64) (well : WellRows weightLimit n rows) where
   abbrev tree : Tree
@@ -52,11 +55,10 @@ module _ (n : ℕ) (rows : List Row) (two : 2 ≤ n) (few : n ≤ 64) (well : We
   body = treeBody (treeOf n rows)
 
   edges : root tree ≡ length rows
-  edges = root-of n rows (well .clean)
+  edges = root-is n rows
 
   size : Sized n tree
-  unfolding treeOf
-  size = record { homes = length-map (numbers 0 n) (homeOf rows) ∙ numbers-length 0 n; weights = length-map rows (λ r. r .weight) ∙ sym edges }
+  size = tree-size n rows
 
   weight-listed : (v : ℕ) → v < length rows → Mem (getD (tree .weights) v 0) (weights rows)
   unfolding treeOf
@@ -66,9 +68,6 @@ module _ (n : ℕ) (rows : List Row) (two : 2 ≤ n) (few : n ≤ 64) (well : We
   unfolding treeOf
   tree-of-body = tree-in-body n tree size (λ w m. omega (arith, well .weigh w m .1))
 
-  taxa-passed : Passed (taxaOff n)
-  taxa-passed i l = neither-is (not-less-is n 2) (not-less-is 64 n) .1 (two, few)
-
   length-passed : Passed (lengthOff (treeFits n (length body)))
   length-passed i l =
       ap not
@@ -76,14 +75,12 @@ module _ (n : ℕ) (rows : List Row) (two : 2 ≤ n) (few : n ≤ 64) (well : We
       (eq-eqb (length body) (treeLength n (length rows)) (body-length n tree size ∙ ap (treeLength n) edges)))
 
   link-within : (i : ℕ) → i < root tree → getD (tree .links) i 0 ≤ root tree
-  unfolding treeOf
   link-within i l =
-      let e : 0 + i ≡ i = omega arith in
       let h : i < length rows = omega (arith, edges) in
-      omega (arith, edges, map-at (linkOf n rows) 0 (length rows) i 0 h ∙ ap (linkOf n rows) e, link-later n rows (well .clean .up) i h .1)
+      omega (arith, edges, link-is n rows i 0 h, link-later n rows (well .clean .up) i h .1)
 
   home-within : (i : ℕ) → i < n → getD (tree .homes) i 0 ≤ root tree
-  home-within i l = omega (arith, edges, home-of n rows (well .clean) i l, home-smallest n rows (well .clean) i l .to)
+  home-within i l = omega (arith, edges, home-is n rows i l, home-smallest n rows (well .clean) i l .to)
 
   body-passed : Passed (treeOff n body)
   unfolding treeBody
@@ -106,7 +103,7 @@ module _ (n : ℕ) (rows : List Row) (two : 2 ≤ n) (few : n ≤ 64) (well : We
       (eq-eqb _ _ (walks-end n rows (well .clean .up) v (omega (arith, edges)))))
 
   home-passed : Passed (homeOff tree)
-  home-passed i l = ap not (eq-eqb _ _ (home-of n rows (well .clean) 0 (omega arith) ∙ at-root (decLt (homeOf rows 0) (length rows)) ∙ sym edges))
+  home-passed i l = ap not (eq-eqb _ _ (home-is n rows 0 (omega arith) ∙ at-root (decLt (homeOf rows 0) (length rows)) ∙ sym edges))
     where
       at-root : Dec (homeOf rows 0 < length rows) → homeOf rows 0 ≡ length rows
       at-root (yes h) =
@@ -136,7 +133,7 @@ module _ (n : ℕ) (rows : List Row) (two : 2 ≤ n) (few : n ≤ 64) (well : We
 
   -- THE WRITTEN TREE PASSES EVERY CHECK
   pub written-passes : AllPassed (treeChecks n body)
-  written-passes = (taxa-passed, (length-passed, (body-passed, own (sym tree-of-body))))
+  written-passes = (taxa-passed n two few, (length-passed, (body-passed, own (sym tree-of-body))))
     where
       own : {t : Tree} → tree ≡ t → AllPassed (weightOff t ∷ walkOff t ∷ homeOff t ∷ edgeOff n t ∷ twinOff n t ∷ [])
       own e =
