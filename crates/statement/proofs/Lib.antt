@@ -30,3 +30,4 @@ pub mod Groups
 pub mod Scores
 pub mod Walks
 pub mod WellFormed
+pub mod Outputs

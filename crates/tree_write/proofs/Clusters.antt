@@ -63,7 +63,7 @@ module _ (n : ℕ) (rows : List Row) (clean : Clean n (clusters rows)) where
             let differ : clusterAt rows a ≡ clusterAt rows v → ⊥ = λ e. omega (arith, ascending n rows clean a v g lv) in
             let inside : Strictly n (clusterAt rows a) (clusterAt rows v) = record { part = nested n rows clean a v i le lv li ha hv; other = differ } in
             let link = link-smallest n rows clean a la in
-            let (close, sub) = link .least v lv inside in
+            let close = link .lowest v inside in
             let (later, top) = link-later n rows (clean .up) a la in
             let (s, few, e) = ih (linkOf n rows a) (omega arith) close lv (link .holds (omega arith) .part i li ha) hv in
             (suc s, omega arith, one-more s a v la e)
@@ -77,7 +77,7 @@ module _ (n : ℕ) (rows : List Row) (clean : Clean n (clusters rows)) where
       where
         at : Out (clusterAt rows v) i ⊎ In (clusterAt rows v) i → onWalk (treeOf n rows) (homeOf rows i) v ≡ eqb (bit (clusterAt rows v) i) 1
         at (inr h) =
-            let (close, sub) = home-smallest n rows clean i li .least v lv h in
+            let close = home-smallest n rows clean i li .lowest v h in
             let (s, few, e) = passes v (homeOf rows i) v (omega arith) close lv (home-holds (omega arith)) h in
             some-at (λ s. eqb (walk (treeOf n rows) s (homeOf rows i)) v) (suc (root (treeOf n rows))) s (omega (arith, root-is n rows)) (eq-eqb _ v e)
             ∙ sym (eq-eqb (bit (clusterAt rows v) i) 1 h)

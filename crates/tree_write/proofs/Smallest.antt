@@ -29,11 +29,13 @@ pub record Strictly (n a b : ℕ) : Type 0 where
   pub other : a ≢ b
 
 -- row r has THE SMALLEST LISTED CLUSTER that something holds of: it holds there, and every listed cluster that it holds of contains that one;
--- r is the root where it holds of none
+-- otherwise r is the root, and it holds of none. No lower row has such a cluster
 pub record Smallest (n : ℕ) (rows : List Row) (Holds : ℕ → Type 0) (r : ℕ) : Type 0 where
   pub to : r ≤ length rows
   pub holds : r < length rows → Holds (clusterAt rows r)
-  pub least : (j : ℕ) → j < length rows → Holds (clusterAt rows j) → (r ≤ j) × Part n (clusterAt rows r) (clusterAt rows j)
+  pub least : (j : ℕ) → j < length rows → Holds (clusterAt rows j) → Part n (clusterAt rows r) (clusterAt rows j)
+  pub otherwise : r ≡ length rows → (j : ℕ) → j < length rows → Holds (clusterAt rows j) → ⊥
+  pub lowest : (j : ℕ) → Holds (clusterAt rows j) → r ≤ j
 
 abbrev pub LinkSmallest : ℕ → List Row → ℕ → Type 0
 LinkSmallest n rows i = Smallest n rows (Strictly n (clusterAt rows i)) (linkOf n rows i)
@@ -98,18 +100,20 @@ module _ (n : ℕ) (rows : List Row) (clean : Clean n (clusters rows)) where
   smallest-lowest : (Holds : ℕ → Type 0) (p : ℕ → Bool) (t : ℕ) → t < n → ((j : ℕ) → (p j ≡ true) ↔ Holds (clusterAt rows j))
       → ((c : ℕ) → Holds c → In c t) → Smallest n rows Holds (lowest p (length rows))
   smallest-lowest Holds p t l test shared =
-      let low = lowest-is p 0 (length rows) in
-      let here : lowest p (length rows) < length rows → Holds (clusterAt rows (lowest p (length rows))) = λ h. test (lowest p (length rows)) .0 (low .hit (omega arith)) in
+      let r : ℕ = lowest p (length rows) in
+      let low : Lowest p 0 (length rows) r = lowest-is p 0 (length rows) in
+      let here : r < length rows → Holds (clusterAt rows r) = λ h. test r .0 (low .hit (omega arith)) in
       record {
         to = omega (arith, low .to);
         holds = here;
-        least = λ j lj h. let le : lowest p (length rows) ≤ j = before j h (decLt j (lowest p (length rows))) in
-            (le, nested (lowest p (length rows)) j t le lj l (shared _ (here (omega arith))) (shared _ h));
+        least = λ j lj h. let le = first j h (decLt j r) in nested r j t le lj l (shared _ (here (omega arith))) (shared _ h);
+        otherwise = λ e j lj h. omega (arith, first j h (decLt j r));
+        lowest = λ j h. first j h (decLt j r);
       }
     where
-      before : (j : ℕ) → Holds (clusterAt rows j) → Dec (j < lowest p (length rows)) → lowest p (length rows) ≤ j
-      before j h (yes g) = absurd (true≢false (sym (test j .1 h) ∙ lowest-is p 0 (length rows) .before j (omega arith) g))
-      before j h (no g) = omega arith
+      first : (j : ℕ) → Holds (clusterAt rows j) → Dec (j < lowest p (length rows)) → lowest p (length rows) ≤ j
+      first j h (yes g) = absurd (true≢false (sym (test j .1 h) ∙ lowest-is p 0 (length rows) .before j (omega arith) g))
+      first j h (no g) = omega arith
 
   pub link-smallest : (i : ℕ) → i < length rows → LinkSmallest n rows i
   unfolding linkOf

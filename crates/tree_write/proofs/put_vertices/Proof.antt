@@ -10,7 +10,7 @@ use Rattle.statement.specs.Rows.{Row, rowsOf}
 use Rattle.statement.specs.Tree.{treeOf}
 use Rattle.statement.proofs.WellFormed.{Roomy}
 use Rattle.tree_write.specs.Vertices.{ClustersOf, vertices}
-use Rattle.tree_write.proofs.Lists.{roomy, clusters-of, cluster-small}
+use Rattle.tree_write.proofs.GivenRows.{roomy, clusters-of, cluster-small}
 use Rattle.tree_write.proofs.Stores.{one-more, vertices-length}
 use Rattle.tree_write.proofs.put_vertices.Statement.{statement}
 use Rattle.tree_write.proofs.put_vertices.Tie as tie

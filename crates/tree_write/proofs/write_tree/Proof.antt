@@ -9,8 +9,8 @@ use borrow.Author.Tests.{lt-ltb, le-ltb, ne-eqb, not-true, not-false}
 use Rattle.statement.specs.Matrix.{weightLimit}
 use Rattle.statement.specs.Rows.{wellFormed, WellFormed}
 use Rattle.statement.proofs.WellFormed.{Roomy, well-formed-is, rows-length}
-use Rattle.tree_write.proofs.Lists.{roomy}
-use Rattle.tree_write.proofs.Reply.{taxa-off, list-off, length-off, written}
+use Rattle.tree_write.proofs.GivenRows.{roomy}
+use Rattle.tree_write.proofs.Reply.{taxa-off, list-off, size-off, written}
 use Rattle.tree_write.proofs.write_tree.Statement.{statement}
 use Rattle.tree_write.proofs.write_tree.Tie as tie
 
@@ -59,7 +59,7 @@ add-if5-2 c = omega (arith, list (c .before .before) .1 .rows)
 returns-5 : tie.Need-returns-5
 returns-5 c =
     let a = c .before .before .before .before .before .before .before .before .args in
-    length-off (a .n) (a .s) (a .out .now) (omega arith) (omega arith) (well (c .before .before .before)) (c .before .if4 .left) (c .if5 .taken)
+    size-off (a .n) (a .s) (a .out .now) (omega arith) (omega arith) (well (c .before .before .before)) (c .before .if4 .left) (c .if5 .taken)
 
 cast-out : tie.Need-cast-out
 cast-out c = omega (arith, list (c .before .before .before) .1 .rows)
@@ -96,8 +96,10 @@ returns-6 c =
     let filled = c .before .before .before .before .before .before .put-vertices in
     let weighed = c .before .before .put-weights in
     let here = c .before .before .before .before .before .before .before .before .before .before .before in
-    written (a .n) (a .s) (a .out .now) (omega arith) (omega arith) (well here) (c .before .before .before .before .before .before .before .before .before .if4 .left) (rows-length (a .s) (list here .1)) (c .before .before .before .before .before .before .before .before .if5 .left)
-    (filled .last .1 .1 .0) (weighed .last .1 .1 .0) (filled .ensures) (filled .kept .1 .1 .0) (weighed .ensures) (weighed .kept .1 .1 .0)
+    written (a .n) (a .s) (a .out .now)
+    (record { two = omega arith; few = omega arith; well = well here; whole = c .before .before .before .before .before .before .before .before .before .if4 .left; size = c .before .before .before .before .before .before .before .before .if5 .left })
+    (rows-length (a .s) (list here .1)) (filled .last .1 .1 .0) (weighed .last .1 .1 .0) (filled .ensures) (filled .kept .1 .1 .0) (weighed .ensures)
+    (weighed .kept .1 .1 .0)
 
 pub write-tree-spec : {M : Type 1} → statement M
 write-tree-spec =

@@ -10,11 +10,12 @@ use mathlib.Core.List.{List, [], _∷_}
 use lib.Dec.{ltb, eqb}
 use lib.ListN.{length, getD, length-map}
 use borrow.Author.Tests.{eqb-false, eq-eqb, ne-eqb, not-true}
+use Rattle.statement.specs.declared.Splits.{Splits}
 use Rattle.statement.specs.declared.Reading.{Reading}
 use Rattle.statement.specs.declared.Outcome.the-variants.{Done}
 use Rattle.statement.specs.Cluster.{bit}
 use Rattle.statement.specs.Matrix.{weightLimit}
-use Rattle.statement.specs.Rows.{Row, clusters, weights, Mem, listOf}
+use Rattle.statement.specs.Rows.{Row, clusters, weights, Mem, rowsOf, listOf}
 use Rattle.statement.specs.Tree.{Tree, root, clusterAt, linkOf, homeOf, treeOf, walk, onWalk, clusterOf, rowsOfTree}
 use Rattle.statement.specs.Bytes.{treeBody, treeIn, treeLength}
 use Rattle.statement.specs.Refusals.{
@@ -32,7 +33,7 @@ use Rattle.statement.specs.Refusals.{
   twinOff,
   treeChecks,
 }
-use Rattle.statement.specs.Calls.{readTree}
+use Rattle.statement.specs.Calls.{writeTree, treeWritten, readTree}
 use Rattle.statement.proofs.Listed.{mem-getD}
 use Rattle.statement.proofs.Lowest.{some-at, none-at}
 use Rattle.statement.proofs.Tests.{same-is, neither-is, not-is, fails-is, none-is, not-less-is, unless-is}
@@ -40,12 +41,14 @@ use Rattle.statement.proofs.Walks.{root-is, link-is, home-is, link-later, walks
 use Rattle.statement.proofs.Enlarged.{WellRows}
 use Rattle.statement.proofs.Run.{rows-few}
 use Rattle.statement.proofs.Refused.{passed-done}
+use Rattle.statement.proofs.Accepted.{taxa-passed}
+use Rattle.statement.proofs.Outputs.{output-accepted}
+use Rattle.statement.proofs.WellFormed.{well-formed-is}
+use Rattle.statement.proofs.Allowance.{well-rows}
+use Rattle.tree_write.proofs.Reply.{accepted}
 use Rattle.tree_write.proofs.Smallest.{home-smallest, cluster-range, ascending, free-at}
 use Rattle.tree_write.proofs.Clusters.{cluster-of-list, list-tree-list}
 use Rattle.tree_write.proofs.Body.{Sized, tree-size, body-length, body-vertex, vertices-within, tree-in-body}
-
-pub taxa-passed : (n : ℕ) → 2 ≤ n → n ≤ 64 → Passed (taxaOff n)
-taxa-passed n two few i l = neither-is (not-less-is n 2) (not-less-is 64 n) .1 (two, few)
 
 module _ (n : ℕ) (rows : List Row) (two : 2 ≤ n) (few : n ≤ 64) (well : WellRows weightLimit n rows) where
   abbrev tree : Tree
@@ -133,7 +136,7 @@ module _ (n : ℕ) (rows : List Row) (two : 2 ≤ n) (few : n ≤ 64) (well : We
 
   -- THE WRITTEN TREE PASSES EVERY CHECK
   pub written-passes : AllPassed (treeChecks n body)
-  written-passes = (taxa-passed n two few, (length-passed, (body-passed, own (sym tree-of-body))))
+  written-passes = (taxa-passed n .1 (two, few), (length-passed, (body-passed, own (sym tree-of-body))))
     where
       own : {t : Tree} → tree ≡ t → AllPassed (weightOff t ∷ walkOff t ∷ homeOff t ∷ edgeOff n t ∷ twinOff n t ∷ [])
       own e =
@@ -152,3 +155,13 @@ module _ (n : ℕ) (rows : List Row) (two : 2 ≤ n) (few : n ≤ 64) (well : We
     where
       read : List Row → Reading
       read l = record { outcome = Done; list = listOf n l }
+
+-- what the writer wrote of a list is read back as that list
+pub write-read : (n : ℕ) (s : Splits) (out : List ℕ) → length (s .clusters) ≡ 125 → length (s .weights) ≡ 125
+    → writeTree n s out ≡ Done → readTree n (treeWritten n s out) ≡ record { outcome = Done; list = listOf n (rowsOf s) }
+unfolding writeTree
+write-read n s out hc hw done =
+    let ok = output-accepted n s (length out) (treeLength n (s .rows)) .0 done in
+    let form = well-formed-is weightLimit n s hc hw (ok .few) .0 (ok .well) in
+    let rows : WellRows weightLimit n (rowsOf s) = subst (λ (k : ℕ). WellRows weightLimit k (rowsOf s)) (ok .whole) (well-rows weightLimit n s form) in
+    ap (readTree n) (accepted n s out ok .1) ∙ written-read n (rowsOf s) (ok .two) (ok .few) rows
