@@ -1,26 +1,21 @@
 -- What the writer says and leaves in the slice, by the outcome of its checks. Assumes nothing.
-use Prim.Native.Nat.{ℕ, _+_, _*_, _≤_}
+use Prim.Native.Nat.{ℕ, _≤_}
 use mathlib.Core.Path.{_≡_, sym, _∙_}
 use mathlib.Core.Logic.{_≢_}
 use mathlib.Core.Bool.{true, false, _&&_, _||_}
 use mathlib.Core.List.{List}
 use lib.Dec.{ltb, eqb}
-use lib.ListN.{length, set, length-set}
-use lib.Seq.{paste}
+use lib.ListN.{length}
 use Rattle.statement.specs.declared.Splits.{Splits}
 use Rattle.statement.specs.declared.Outcome.{Outcome}
 use Rattle.statement.specs.declared.Outcome.the-variants.{Done, Refused}
 use Rattle.statement.specs.Matrix.{weightLimit}
-use Rattle.statement.specs.Rows.{weights, rowsOf, wellFormed}
+use Rattle.statement.specs.Rows.{rowsOf, wellFormed}
 use Rattle.statement.specs.Tree.{treeOf}
-use Rattle.statement.specs.Bytes.{toBytes, treeBody, treeLength}
+use Rattle.statement.specs.Bytes.{treeBody, treeLength}
 use Rattle.statement.specs.Refusals.{outcomeOf, outputChecks}
 use Rattle.statement.specs.Calls.{writeTree, treeWritten}
 use Rattle.statement.proofs.Outputs.{AcceptedOutput, taxa-refused, list-refused, size-refused, output-accepted}
-use Rattle.statement.proofs.Walks.{root-is}
-use Rattle.tree_write.specs.Vertices.{vertices}
-use Rattle.tree_write.proofs.Body.{tree-size}
-use Rattle.tree_write.proofs.Stores.{body-written}
 
 module _ (n : ℕ) (s : Splits) (out : List ℕ) where
   -- the call says r, and leaves o in the slice
@@ -48,14 +43,5 @@ module _ (n : ℕ) (s : Splits) (out : List ℕ) where
     unfolding writeTree treeWritten
     accepted = let done = output-accepted n s (length out) (treeLength n (s .rows)) .1 ok in (done, rw done)
 
-    -- the first byte, the vertices and the weights are in
-    pub written : length (rowsOf s) ≡ s .rows → (o₁ o₂ : List ℕ)
-        → o₁ ≡ paste (set out 0 (s .rows)) 1 (vertices (treeOf n (rowsOf s))) (s .rows + n) → length o₁ ≡ length (set out 0 (s .rows))
-        → o₂ ≡ paste o₁ (1 + s .rows + n) (toBytes (weights (rowsOf s))) (4 * s .rows) → length o₂ ≡ length o₁ → Says Done o₂
-    unfolding treeOf
-    written count o₁ o₂ e₁ l₁ e₂ l₂ = (
-      sym (accepted .0),
-      body-written n (treeOf n (rowsOf s)) (tree-size n (rowsOf s)) (s .rows) (root-is n (rowsOf s) ∙ count) out o₁ o₂ (ok .size) e₁
-          (l₁ ∙ length-set out 0 (s .rows)) e₂ l₂
-          ∙ sym (accepted .1),
-    )
+    pub written : (o : List ℕ) → o ≡ treeBody (treeOf n (rowsOf s)) → Says Done o
+    written o e = (sym (accepted .0), e ∙ sym (accepted .1))

@@ -77,20 +77,21 @@ pasted : (d s : List ℕ) (at k : ℕ) {front : List ℕ} → take at d ≡ fron
 pasted d s at k e l h =
     take-paste d at s k l (omega arith) ∙ ap₂ (λ (a b : List ℕ). a ++ b) e (take-all k s (omega arith))
 
-pub body-written : (n : ℕ) (t : Tree) → Sized n t → (m : ℕ) → root t ≡ m → (o₀ o₁ o₂ : List ℕ) → length o₀ ≡ treeLength n m
-    → o₁ ≡ paste (set o₀ 0 m) 1 (vertices t) (m + n) → length o₁ ≡ length o₀ → o₂ ≡ paste o₁ (1 + m + n) (toBytes (t .weights)) (4 * m) → length o₂ ≡ length o₁
-    → o₂ ≡ treeBody t
-unfolding treeBody
-body-written n t size m edges o₀ o₁ o₂ long e₁ l₁ e₂ l₂ =
-    sym (take-all (1 + m + n + 4 * m) o₂ (omega arith)) ∙ whole ∙ ap (λ (k : ℕ). k ∷ (vertices t ++ toBytes (t .weights))) (sym edges)
-  where
-    front : take (1 + (m + n)) o₁ ≡ m ∷ vertices t
-    front =
-        ap (take (1 + (m + n))) e₁
-        ∙ pasted (set o₀ 0 m) (vertices t) 1 (m + n) (take-suc-set o₀ 0 m (omega arith)) (omega (arith, length-set o₀ 0 m)) (omega (arith, sides n t size))
+module _ (n : ℕ) (t : Tree) (size : Sized n t) (m : ℕ) (edges : root t ≡ m) (o₀ o₁ o₂ : List ℕ) (long : length o₀ ≡ treeLength n m) where
+  pub body-written : o₁ ≡ paste (set o₀ 0 m) 1 (vertices t) (m + n) → length o₁ ≡ length (set o₀ 0 m)
+      → o₂ ≡ paste o₁ (1 + m + n) (toBytes (t .weights)) (4 * m) → length o₂ ≡ length o₁ → o₂ ≡ treeBody t
+  unfolding treeBody
+  body-written e₁ l₁ e₂ l₂ =
+      sym (take-all (1 + m + n + 4 * m) o₂ (omega (arith, length-set o₀ 0 m))) ∙ whole
+      ∙ ap (λ (k : ℕ). k ∷ (vertices t ++ toBytes (t .weights))) (sym edges)
+    where
+      front : take (1 + (m + n)) o₁ ≡ m ∷ vertices t
+      front =
+          ap (take (1 + (m + n))) e₁
+          ∙ pasted (set o₀ 0 m) (vertices t) 1 (m + n) (take-suc-set o₀ 0 m (omega arith)) (omega (arith, length-set o₀ 0 m)) (omega (arith, sides n t size))
 
-    whole : take (1 + m + n + 4 * m) o₂ ≡ m ∷ (vertices t ++ toBytes (t .weights))
-    whole =
-        ap (take (1 + m + n + 4 * m)) e₂
-        ∙ pasted o₁ (toBytes (t .weights)) (1 + m + n) (4 * m) (ap (λ (k : ℕ). take k o₁) (let e : 1 + m + n ≡ 1 + (m + n) = omega arith in e) ∙ front)
-        (omega arith) (omega (arith, bytes-length (t .weights), size .weights))
+      whole : take (1 + m + n + 4 * m) o₂ ≡ m ∷ (vertices t ++ toBytes (t .weights))
+      whole =
+          ap (take (1 + m + n + 4 * m)) e₂
+          ∙ pasted o₁ (toBytes (t .weights)) (1 + m + n) (4 * m) (ap (λ (k : ℕ). take k o₁) (let e : 1 + m + n ≡ 1 + (m + n) = omega arith in e) ∙ front)
+          (omega (arith, length-set o₀ 0 m)) (omega (arith, bytes-length (t .weights), size .weights))

@@ -10,7 +10,7 @@ ghost use lib.Seq.{paste};
 ghost use Rattle.statement.specs.Rows.{Row, weights, rowsOf, WellFormed};
 ghost use Rattle.statement.specs.Matrix.{weightLimit};
 ghost use Rattle.statement.specs.Tree.{strictlyIn, linkOf, homeOf, treeOf};
-ghost use Rattle.statement.specs.Bytes.{fourBytes, toBytes};
+ghost use Rattle.statement.specs.Bytes.{fourBytes, toBytes, treeBody, treeLength};
 ghost use Rattle.statement.specs.Calls.{writeTree, treeWritten};
 ghost use Rattle.tree_write.specs.Vertices.{ClustersOf, vertices};
 
@@ -107,6 +107,17 @@ fn put_weights(s: Splits, at: usize, out: &mut [u8])
     }
 }
 
+// The body of the tree of a well-formed list, in a slice of its length.
+fn put_tree(n: usize, s: Splits, out: &mut [u8])
+    requires { ⌜ (n ≤ 64) × WellFormed weightLimit n s × (length (now out) ≡ treeLength n (s .rows)) ⌝ }
+    ensures { λ _. ⌜ now (out .exit) ≡ treeBody (treeOf n (rowsOf s)) ⌝ }
+{
+    let m = s.rows;
+    out[0] = m as u8;
+    put_vertices(n, s, out);
+    put_weights(s, 1 + m + n, out);
+}
+
 // The tree of a list with k = n: 1, 8, 7, or the slice filled.
 pub fn write_tree(n: usize, s: Splits, out: &mut [u8]) -> Outcome
     ensures { λ r. ⌜ r ≡ writeTree n s (now (out .entry)) ⌝ }
@@ -128,8 +139,6 @@ pub fn write_tree(n: usize, s: Splits, out: &mut [u8]) -> Outcome
     if out.len() != 1 + n + 5 * m {
         return Outcome::Refused(7, 0);
     }
-    out[0] = m as u8;
-    put_vertices(n, s, out);
-    put_weights(s, 1 + m + n, out);
+    put_tree(n, s, out);
     Outcome::Done
 }

@@ -1,15 +1,13 @@
 -- `tree_write::write_tree` meets its contract: each way out is a law of the reply. Assumes nothing.
-use Prim.Native.Nat.{_+_, _*_, _≤_}
 use native.Mathlib.Omega.{arith}
 use mathlib.Core.Path.{_≡_, sym, _∙_}
 use mathlib.Core.Bool.{true}
-use lib.ListN.{length, length-set}
+use lib.ListN.{length}
 use borrow.Author.Needs.{needs}
 use borrow.Author.Tests.{lt-ltb, le-ltb, ne-eqb, not-true, not-false}
 use Rattle.statement.specs.Matrix.{weightLimit}
 use Rattle.statement.specs.Rows.{wellFormed, WellFormed}
-use Rattle.statement.proofs.WellFormed.{Roomy, well-formed-is, rows-length}
-use Rattle.tree_write.proofs.GivenRows.{roomy}
+use Rattle.statement.proofs.WellFormed.{well-formed-is}
 use Rattle.tree_write.proofs.Reply.{taxa-off, list-off, size-off, written}
 use Rattle.tree_write.proofs.write_tree.Statement.{statement}
 use Rattle.tree_write.proofs.write_tree.Tie as tie
@@ -34,13 +32,12 @@ returns-3 c =
 well : (c : tie.Else3) → let a = c .before .before .before .before .before .args in wellFormed weightLimit (a .n) (a .s) ≡ true
 well c = sym (c .before .well-formed .ensures) ∙ not-false _ (c .if3 .left)
 
-list : (c : tie.Else3) → let a = c .before .before .before .before .before .args in WellFormed weightLimit (a .n) (a .s) × Roomy (a .s)
+list : (c : tie.Else3) → let a = c .before .before .before .before .before .args in WellFormed weightLimit (a .n) (a .s)
 list c =
     let s = c .before .before .before .before .before in
     let hc : length (s .args .s .clusters) ≡ 125 = search needs in
     let hw : length (s .args .s .weights) ≡ 125 = search needs in
-    let w = well-formed-is weightLimit (s .args .n) (s .args .s) hc hw (omega arith) .0 (well c) in
-    (w, roomy (s .args .n) (s .args .s) (omega arith) w hc hw)
+    well-formed-is weightLimit (s .args .n) (s .args .s) hc hw (omega arith) .0 (well c)
 
 returns-4 : tie.Need-returns-4
 returns-4 c =
@@ -51,55 +48,30 @@ add-if5 : tie.Need-add-if5
 add-if5 c = search needs
 
 mul-if5 : tie.Need-mul-if5
-mul-if5 c = omega (arith, list (c .before .before) .1 .rows)
+mul-if5 c = omega (arith, list (c .before .before))
 
 add-if5-2 : tie.Need-add-if5-2
-add-if5-2 c = omega (arith, list (c .before .before) .1 .rows)
+add-if5-2 c = omega (arith, list (c .before .before))
 
 returns-5 : tie.Need-returns-5
 returns-5 c =
     let a = c .before .before .before .before .before .before .before .before .args in
     size-off (a .n) (a .s) (a .out .now) (omega arith) (omega arith) (well (c .before .before .before)) (c .before .if4 .left) (c .if5 .taken)
 
-cast-out : tie.Need-cast-out
-cast-out c = omega (arith, list (c .before .before .before) .1 .rows)
-
-slice-write-out : tie.Need-slice-write-out
-slice-write-out c = search needs
-
-put-vertices-requires : tie.Need-put-vertices-requires
-put-vertices-requires c κs = (omega arith, list (c .before .before .before .before) .0, simp length-set (omega arith))
-
--- the slice is as long as it came
-kept : (c : tie.After-put-vertices) → length (c .put-vertices .last .1 .1 .0) ≡ length (c .before .before .before .before .before .before .before .before .before .before .args .out .now)
-kept c = c .put-vertices .kept .1 .1 .0 ∙ length-set (c .before .before .before .before .before .before .before .before .before .before .args .out .now) 0 _
-
-add-put-weights : tie.Need-add-put-weights
-add-put-weights c = search needs
-
-add-put-weights-2 : tie.Need-add-put-weights-2
-add-put-weights-2 c = search needs
-
-put-weights-requires : tie.Need-put-weights-requires
-put-weights-requires c κs =
-    let a = c .before .before .before .before .before .before .before .before .before .before .before .before .before .args in
-    let filled = c .before .before .before in
-    let room : 1 + a .s .rows + a .n + 4 * a .s .rows ≤ length (filled .put-vertices .last .1 .1 .0) = omega (arith, kept filled) in
-    (list (c .before .before .before .before .before .before .before .before) .1 .rows, room)
+put-tree-requires : tie.Need-put-tree-requires
+put-tree-requires c κs = (omega arith, list (c .before .before .before .before), c .before .if5 .left)
 
 same-length : tie.Need-same-length
-same-length c = c .before .before .put-weights .kept .1 .1 .0 ∙ kept (c .before .before .before .before .before .before)
+same-length c = search needs
 
 returns-6 : tie.Need-returns-6
 returns-6 c =
-    let a = c .before .before .before .before .before .before .before .before .before .before .before .before .before .before .before .before .args in
-    let filled = c .before .before .before .before .before .before .put-vertices in
-    let weighed = c .before .before .put-weights in
-    let here = c .before .before .before .before .before .before .before .before .before .before .before in
+    let five = c .before .before .before .before in
+    let here = five .before .before .before in
+    let a = here .before .before .before .before .before .args in
     written (a .n) (a .s) (a .out .now)
-    (record { two = omega arith; few = omega arith; well = well here; whole = c .before .before .before .before .before .before .before .before .before .if4 .left; size = c .before .before .before .before .before .before .before .before .if5 .left })
-    (rows-length (a .s) (list here .1)) (filled .last .1 .1 .0) (weighed .last .1 .1 .0) (filled .ensures) (filled .kept .1 .1 .0) (weighed .ensures)
-    (weighed .kept .1 .1 .0)
+    (record { two = omega arith; few = omega arith; well = well here; whole = five .before .if4 .left; size = five .if5 .left })
+    (c .before .before .put-tree .last .1 .1 .0) (c .before .before .put-tree .ensures)
 
 pub write-tree-spec : {M : Type 1} → statement M
 write-tree-spec =
@@ -114,11 +86,6 @@ write-tree-spec =
     mul-if5
     add-if5-2
     returns-5
-    cast-out
-    slice-write-out
-    put-vertices-requires
-    add-put-weights
-    add-put-weights-2
-    put-weights-requires
+    put-tree-requires
     same-length
     returns-6)
