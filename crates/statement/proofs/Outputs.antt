@@ -1,5 +1,5 @@
 -- The calls that take a list with k = n and a lent output slice: each way out of their checks, and what an accepted call is given. Assumes nothing.
-use Prim.Native.Nat.{ℕ, _≤_, _<_}
+use Prim.Native.Nat.{ℕ, _≤_}
 use native.Mathlib.Omega.{arith}
 use mathlib.Core.Path.{_≡_, refl, ap}
 use mathlib.Core.Logic.{_↔_, _≢_, inl, inr, Iff·trans}

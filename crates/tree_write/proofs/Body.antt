@@ -1,5 +1,5 @@
 -- The body of a tree, as bytes, and the tree that it holds. Document 01, "Records in a file". Assumes nothing.
-use Prim.Native.Nat.{ℕ, zero, suc, _+_, _*_, _-_, _/_, _%_, _^_, _≤_, _<_}
+use Prim.Native.Nat.{ℕ, suc, _+_, _*_, _-_, _/_, _%_, _^_, _≤_, _<_}
 use native.Mathlib.Omega.{arith}
 use native.Mathlib.Nat.{div-div-eq-div-mul}
 use native.Mathlib.Decide.{decLt}
@@ -10,7 +10,7 @@ use lib.ListN.{length, take, drop, getD, length-append, length-map, List·getD-a
 use lib.Seq.{take-at, drop-at, getD-append-add}
 use Rattle.statement.specs.Rows.{Row, Mem}
 use Rattle.statement.specs.Tree.{numbers, Tree, root, homeOf, treeOf}
-use Rattle.statement.specs.Bytes.{fourBytes, fromFour, toBytes, fromBytes, treeBody, treeIn, treeLength}
+use Rattle.statement.specs.Bytes.{fromFour, toBytes, fromBytes, treeBody, treeIn, treeLength}
 use Rattle.statement.proofs.Walks.{numbers-length, root-is}
 
 -- words of four bytes: a word holds a number below 2 ^ 32

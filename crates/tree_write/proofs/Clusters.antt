@@ -3,23 +3,23 @@
 use Prim.Native.Nat.{ℕ, zero, suc, _+_, _^_, _≤_, _<_}
 use native.Mathlib.Omega.{arith}
 use native.Mathlib.Decide.{decLt}
-use mathlib.Core.Path.{_≡_, refl, sym, _∙_, ap, ap₂, subst}
+use mathlib.Core.Path.{_≡_, refl, sym, _∙_, ap, ap₂}
 use mathlib.Core.Logic.{_⊎_, inl, inr}
-use mathlib.Core.Bool.{Bool, true, false, cond}
+use mathlib.Core.Bool.{Bool, cond}
 use mathlib.Core.List.{List, [], _∷_, map}
-use lib.Dec.{eqb, leb}
-use lib.ListN.{length, getD, length-map, List·getD-map}
+use lib.Dec.{eqb}
+use lib.ListN.{length, getD, List·getD-map}
 use borrow.Author.Tests.{eq-eqb, ne-eqb, le-leb}
-use Rattle.statement.specs.Cluster.{bit, In, Out, groupOf}
-use Rattle.statement.specs.Lowest.{lowest, some}
+use Rattle.statement.specs.Cluster.{bit, In, Out}
+use Rattle.statement.specs.Lowest.{lowest}
 use Rattle.statement.specs.Rows.{Row, row, clusters, weights, Ascending}
-use Rattle.statement.specs.Tree.{numbers, Tree, root, clusterAt, linkOf, homeOf, treeOf, up, walk, onWalk, clusterOf, insertRow, sortRows, rowsOfTree}
+use Rattle.statement.specs.Tree.{numbers, root, clusterAt, linkOf, homeOf, treeOf, up, walk, onWalk, clusterOf, insertRow, sortRows, rowsOfTree}
 use Rattle.statement.proofs.Bits.{zero-or-one, bit-ext}
 use Rattle.statement.proofs.Groups.{group-below, group-bit}
 use Rattle.statement.proofs.Lowest.{some-at, none-at}
 use Rattle.statement.proofs.Walks.{root-is, home-is, up-is, up-root, link-later}
 use Rattle.statement.proofs.Answer.{Clean}
-use Rattle.tree_write.proofs.Smallest.{Strictly, Smallest, link-smallest, home-smallest, cluster-range, ascending, nested}
+use Rattle.tree_write.proofs.Smallest.{Strictly, link-smallest, home-smallest, cluster-range, ascending, nested}
 
 module _ (n : ℕ) (rows : List Row) (clean : Clean n (clusters rows)) where
   module _ (i : ℕ) (li : i < n) where

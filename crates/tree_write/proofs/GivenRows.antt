@@ -2,14 +2,14 @@
 use Prim.Native.Nat.{ℕ, _^_, _≤_, _<_}
 use native.Mathlib.Omega.{arith}
 use native.Mathlib.Nat.{lt-of-lt-of-le}
-use mathlib.Core.Path.{_≡_, sym, _∙_, subst}
-use lib.ListN.{length, getD, length-map}
+use mathlib.Core.Path.{_≡_, subst}
+use lib.ListN.{length, getD}
 use lib.Pow.{pow-mono}
 use Rattle.statement.specs.declared.Splits.{Splits}
 use Rattle.statement.specs.Matrix.{weightLimit}
 use Rattle.statement.specs.Rows.{clusters, weights, rowsOf, WellFormed}
 use Rattle.statement.proofs.Listed.{asc-mem, mem-getD}
-use Rattle.statement.proofs.WellFormed.{Roomy, clusters-front, weights-front, rows-length}
+use Rattle.statement.proofs.WellFormed.{Roomy, clusters-front, rows-length}
 use Rattle.tree_write.specs.Vertices.{ClustersOf}
 
 module _ (s : Splits) (room : Roomy s) where

@@ -1,11 +1,11 @@
 -- THE ROUND TRIP: the tree written of a well-formed list passes every check of a reader, and reading it gives that list. Document 01, "The tree",
 -- and for the order of the checks "Refusal numbers". Assumes nothing.
-use Prim.Native.Nat.{ℕ, suc, _+_, _*_, _-_, _^_, _≤_, _<_}
+use Prim.Native.Nat.{ℕ, suc, _+_, _*_, _-_, _≤_, _<_}
 use native.Mathlib.Omega.{arith}
 use native.Mathlib.Decide.{decLt}
-use mathlib.Core.Path.{_≡_, refl, sym, _∙_, ap, subst}
+use mathlib.Core.Path.{_≡_, sym, _∙_, ap, subst}
 use mathlib.Core.Logic.{_≢_}
-use mathlib.Core.Bool.{true, false, not, _&&_}
+use mathlib.Core.Bool.{not, _&&_}
 use mathlib.Core.List.{List, [], _∷_}
 use lib.Dec.{ltb, eqb}
 use lib.ListN.{length, getD, length-map}
@@ -13,26 +13,11 @@ use borrow.Author.Tests.{eqb-false, eq-eqb, ne-eqb, not-true}
 use Rattle.statement.specs.declared.Splits.{Splits}
 use Rattle.statement.specs.declared.Reading.{Reading}
 use Rattle.statement.specs.declared.Outcome.the-variants.{Done}
-use Rattle.statement.specs.Cluster.{bit}
 use Rattle.statement.specs.Matrix.{weightLimit}
 use Rattle.statement.specs.Rows.{Row, clusters, weights, Mem, rowsOf, listOf}
-use Rattle.statement.specs.Tree.{Tree, root, clusterAt, linkOf, homeOf, treeOf, walk, onWalk, clusterOf, rowsOfTree}
+use Rattle.statement.specs.Tree.{Tree, root, clusterAt, homeOf, treeOf, walk, clusterOf, rowsOfTree}
 use Rattle.statement.specs.Bytes.{treeBody, treeIn, treeLength}
-use Rattle.statement.specs.Refusals.{
-  Passed,
-  AllPassed,
-  outcomeOf,
-  taxaOff,
-  lengthOff,
-  treeFits,
-  treeOff,
-  weightOff,
-  walkOff,
-  homeOff,
-  edgeOff,
-  twinOff,
-  treeChecks,
-}
+use Rattle.statement.specs.Refusals.{Passed, AllPassed, outcomeOf, lengthOff, treeFits, treeOff, weightOff, walkOff, homeOff, edgeOff, twinOff, treeChecks}
 use Rattle.statement.specs.Calls.{writeTree, treeWritten, readTree}
 use Rattle.statement.proofs.Listed.{mem-getD}
 use Rattle.statement.proofs.Lowest.{some-at, none-at}

@@ -4,8 +4,8 @@ use native.Mathlib.Omega.{arith}
 use native.Mathlib.Numerals.{add-one}
 use mathlib.Core.Path.{_≡_, refl, sym, _∙_, ap, ap₂}
 use mathlib.Core.List.{List, [], _∷_, _++_, append-assoc}
-use lib.ListN.{length, take, drop, getD, set, length-set, length-append, List·getD-append}
-use lib.Seq.{sets-eq, paste, paste-suc, take-paste, drop-paste, length-paste, drop-drop, drop-nil, drop-cons, take-add, take-all, take-take, take-suc-set, getD-append-add}
+use lib.ListN.{length, take, drop, getD, set, length-set, List·getD-append}
+use lib.Seq.{sets-eq, paste, paste-suc, take-paste, drop-paste, drop-drop, drop-nil, drop-cons, take-add, take-all, take-take, take-suc-set, getD-append-add}
 use Rattle.statement.specs.Rows.{Row}
 use Rattle.statement.specs.Tree.{Tree, root, linkOf, homeOf, treeOf}
 use Rattle.statement.specs.Bytes.{fourBytes, toBytes, treeBody, treeLength}
