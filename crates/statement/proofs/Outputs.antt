@@ -42,7 +42,8 @@ module _ (n : ℕ) (s : Splits) (len wanted : ℕ) where
       given-refused (outputChecks n s len wanted) 8 0
       (inr (taxa-passed n .1 (two, few), inl (single-fails 8 (not (wellFormed weightLimit n s && eqb (s .taxa) n)) (ap not e))))
 
-  pub size-refused : 2 ≤ n → n ≤ 64 → wellFormed weightLimit n s ≡ true → s .taxa ≡ n → len ≢ wanted → outcomeOf (outputChecks n s len wanted) ≡ Refused 7 0
+  pub size-refused : 2 ≤ n → n ≤ 64 → wellFormed weightLimit n s ≡ true → s .taxa ≡ n → len ≢ wanted
+      → outcomeOf (outputChecks n s len wanted) ≡ Refused 7 0
   size-refused two few well whole other =
       given-refused (outputChecks n s len wanted) 7 0
       (inr (taxa-passed n .1 (two, few), inr (list-passed .1 (well, whole), inl (single-fails 7 (not (eqb len wanted)) (ap not (ne-eqb len wanted other))))))

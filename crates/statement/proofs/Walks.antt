@@ -16,7 +16,7 @@ use Rattle.statement.specs.Tree.{numbers, root, clusterAt, strictlyIn, l
 use Rattle.statement.proofs.Bits.{zero-or-one}
 use Rattle.statement.proofs.Listed.{asc-getD, asc-mem, mem-getD}
 use Rattle.statement.proofs.Lowest.{Lowest, lowest-is, none-of}
-use Rattle.statement.proofs.Groups.{part-le}
+use Rattle.statement.proofs.Groups.{Strictly, strictly-is, part-le}
 
 -- the numbers from i on
 pub numbers-length : (i m : ℕ) → length (numbers i m) ≡ m
@@ -60,39 +60,26 @@ module _ (n : ℕ) (rows : List Row) (asc : Ascending 1 (2 ^ n) (clusters rows))
   count : length (clusters rows) ≡ length rows
   count = length-map rows (λ r. r .cluster)
 
-  cluster-below : (i : ℕ) → i < length rows → clusterAt rows i < 2 ^ n
-  cluster-below i l = asc-mem 1 (2 ^ n) (clusters rows) asc (clusterAt rows i) (mem-getD (clusters rows) i (omega (arith, count))) .1
+  pub cluster-range : (i : ℕ) → i < length rows → (1 ≤ clusterAt rows i) × (clusterAt rows i < 2 ^ n)
+  cluster-range i l = asc-mem 1 (2 ^ n) (clusters rows) asc (clusterAt rows i) (mem-getD (clusters rows) i (omega (arith, count)))
+
+  pub ascending : (i j : ℕ) → i < j → j < length rows → clusterAt rows i < clusterAt rows j
+  ascending i j l lj = asc-getD 1 (2 ^ n) (clusters rows) asc i j l (omega (arith, count))
 
   -- a cluster strictly in another has a lower number, and so a lower row
   strictly-below : (i j : ℕ) → i < length rows → j < length rows → strictlyIn n (clusterAt rows i) (clusterAt rows j) ≡ true → i < j
   strictly-below i j li lj e = go (decLt i j) (decLt j i)
     where
-      parts : (none-test : Bool) → (other : Bool) → (none-test && other) ≡ true → (none-test ≡ true) × (other ≡ true)
-      parts true o q = (refl, q)
-      parts false o q = absurd (true≢false (sym q))
-
-      both : (not (some (λ t. eqb (bit (clusterAt rows i) t) 1 && eqb (bit (clusterAt rows j) t) 0) n) ≡ true) × (not (eqb (clusterAt rows i) (clusterAt rows j)) ≡ true)
-      both = parts _ _ e
-
-      inside : (t : ℕ) → t < n → In (clusterAt rows i) t → In (clusterAt rows j) t
-      inside t l h = at (zero-or-one (clusterAt rows j) t)
-        where
-          at : Out (clusterAt rows j) t ⊎ In (clusterAt rows j) t → In (clusterAt rows j) t
-          at (inr k) = k
-          at (inl o) =
-              absurd (true≢false (sym (rw (eq-eqb (bit (clusterAt rows i) t) 1 h) (eq-eqb (bit (clusterAt rows j) t) 0 o))
-              ∙ none-of (λ t. eqb (bit (clusterAt rows i) t) 1 && eqb (bit (clusterAt rows j) t) 0) n (not-true _ (both .0)) t l))
+      inside : Strictly n (clusterAt rows i) (clusterAt rows j)
+      inside = strictly-is n (clusterAt rows i) (clusterAt rows j) .0 e
 
       le : clusterAt rows i ≤ clusterAt rows j
-      le = part-le n (clusterAt rows i) (clusterAt rows j) (cluster-below i li) inside
-
-      ne : clusterAt rows i ≡ clusterAt rows j → ⊥
-      ne = eqb-false (clusterAt rows i) (clusterAt rows j) (not-true _ (both .1))
+      le = part-le n (clusterAt rows i) (clusterAt rows j) (cluster-range i li .1) (inside .part)
 
       go : Dec (i < j) → Dec (j < i) → i < j
       go (yes l) d = l
-      go (no l) (yes k) = absurd (omega (arith, asc-getD 1 (2 ^ n) (clusters rows) asc j i k (omega (arith, count)), le))
-      go (no l) (no k) = let same : i ≡ j = omega arith in absurd (ne (ap (clusterAt rows) same))
+      go (no l) (yes k) = absurd (omega (arith, ascending j i k li, le))
+      go (no l) (no k) = let same : i ≡ j = omega arith in absurd (inside .other (ap (clusterAt rows) same))
 
   -- a link is the root or a later row
   pub link-later : (i : ℕ) → i < length rows → (i < linkOf n rows i) × (linkOf n rows i ≤ length rows)

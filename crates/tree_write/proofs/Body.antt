@@ -53,10 +53,6 @@ module _ (n : ℕ) (t : Tree) (size : Sized n t) where
   unfolding treeBody
   body-length = omega (arith, length-append (t .links ++ t .homes) (toBytes (t .weights)), sides, bytes-length (t .weights), size .weights)
 
-  pub body-first : getD (treeBody t) 0 0 ≡ root t
-  unfolding treeBody
-  body-first = refl
-
   -- the vertex that stands at a place of the links, or of the homes
   pub body-vertex : (i : ℕ) → i < root t + n → getD (treeBody t) (1 + i) 0 ≡ getD (t .links ++ t .homes) i 0
   unfolding treeBody

@@ -11,15 +11,14 @@ use lib.Dec.{eqb}
 use lib.ListN.{length, getD, List·getD-map}
 use borrow.Author.Tests.{eq-eqb, ne-eqb, le-leb}
 use Rattle.statement.specs.Cluster.{bit, In, Out}
-use Rattle.statement.specs.Lowest.{lowest}
 use Rattle.statement.specs.Rows.{Row, row, clusters, weights, Ascending}
 use Rattle.statement.specs.Tree.{numbers, root, clusterAt, linkOf, homeOf, treeOf, up, walk, onWalk, clusterOf, insertRow, sortRows, rowsOfTree}
 use Rattle.statement.proofs.Bits.{zero-or-one, bit-ext}
-use Rattle.statement.proofs.Groups.{group-below, group-bit}
+use Rattle.statement.proofs.Groups.{group-below, group-bit, Strictly}
 use Rattle.statement.proofs.Lowest.{some-at, none-at}
-use Rattle.statement.proofs.Walks.{root-is, home-is, up-is, up-root, link-later}
+use Rattle.statement.proofs.Walks.{root-is, home-is, up-is, up-root, cluster-range, ascending, link-later}
 use Rattle.statement.proofs.Answer.{Clean}
-use Rattle.tree_write.proofs.Smallest.{Strictly, link-smallest, home-smallest, cluster-range, ascending, nested}
+use Rattle.tree_write.proofs.Smallest.{link-smallest, home-smallest, nested}
 
 module _ (n : ℕ) (rows : List Row) (clean : Clean n (clusters rows)) where
   module _ (i : ℕ) (li : i < n) where
@@ -60,7 +59,7 @@ module _ (n : ℕ) (rows : List Row) (clean : Clean n (clusters rows)) where
         go (no g) ih = (0, omega arith, omega arith)
         go (yes g) ih =
             let la : a < length rows = omega arith in
-            let differ : clusterAt rows a ≡ clusterAt rows v → ⊥ = λ e. omega (arith, ascending n rows clean a v g lv) in
+            let differ : clusterAt rows a ≡ clusterAt rows v → ⊥ = λ e. omega (arith, ascending n rows (clean .up) a v g lv) in
             let inside : Strictly n (clusterAt rows a) (clusterAt rows v) = record { part = nested n rows clean a v i le lv li ha hv; other = differ } in
             let link = link-smallest n rows clean a la in
             let close = link .lowest v inside in
@@ -91,7 +90,7 @@ module _ (n : ℕ) (rows : List Row) (clean : Clean n (clusters rows)) where
   pub cluster-of-list : (v : ℕ) → v < length rows → clusterOf (treeOf n rows) v n ≡ clusterAt rows v
   unfolding clusterOf
   cluster-of-list v lv =
-      bit-ext n (clusterOf (treeOf n rows) v n) (clusterAt rows v) (group-below test n) (cluster-range n rows clean v lv .1)
+      bit-ext n (clusterOf (treeOf n rows) v n) (clusterAt rows v) (group-below test n) (cluster-range n rows (clean .up) v lv .1)
       (λ i li. group-bit test n i li ∙ ap (λ (b : Bool). cond {A = ℕ} b 1 0) (says i li) ∙ back i)
     where
       test : ℕ → Bool
@@ -108,7 +107,8 @@ module _ (n : ℕ) (rows : List Row) (clean : Clean n (clusters rows)) where
           at (inl o) = rw o
 
 -- A LIST BY ITS PLACES, and rows in ascending order are left as they are
-map-places : {A : Type 0} (f : ℕ → A) (other : A) (i : ℕ) (xs : List A) → ((j : ℕ) → j < length xs → f (i + j) ≡ getD xs j other) → map f (numbers i (length xs)) ≡ xs
+map-places : {A : Type 0} (f : ℕ → A) (other : A) (i : ℕ) (xs : List A) → ((j : ℕ) → j < length xs → f (i + j) ≡ getD xs j other)
+    → map f (numbers i (length xs)) ≡ xs
 unfolding numbers
 map-places f other i [] h = refl
 map-places f other i (x ∷ xs) h =

@@ -8,7 +8,7 @@ use lib.Pow.{pow-mono}
 use Rattle.statement.specs.declared.Splits.{Splits}
 use Rattle.statement.specs.Matrix.{weightLimit}
 use Rattle.statement.specs.Rows.{clusters, weights, rowsOf, WellFormed}
-use Rattle.statement.proofs.Listed.{asc-mem, mem-getD}
+use Rattle.statement.proofs.Walks.{cluster-range}
 use Rattle.statement.proofs.WellFormed.{Roomy, clusters-front, rows-length}
 use Rattle.tree_write.specs.Vertices.{ClustersOf}
 
@@ -18,9 +18,8 @@ module _ (s : Splits) (room : Roomy s) where
 
   pub cluster-small : (n j : ℕ) → WellFormed weightLimit n s → j < s .rows → getD (s .clusters) j 0 < 2 ^ n
   cluster-small n j w l =
-      let e = clusters-front s room .at j l in
-      let below = asc-mem 1 (2 ^ s .taxa) (clusters (rowsOf s)) (w .up) (getD (clusters (rowsOf s)) j 0) (mem-getD (clusters (rowsOf s)) j (omega (arith, clusters-front s room .long))) .1 in
-      lt-of-lt-of-le (subst (λ (c : ℕ). c < 2 ^ s .taxa) e below) (pow-mono (w .taxa))
+      let below = cluster-range (s .taxa) (rowsOf s) (w .up) j (omega (arith, rows-length s room)) .1 in
+      lt-of-lt-of-le (subst (λ (c : ℕ). c < 2 ^ s .taxa) (clusters-front s room .at j l) below) (pow-mono (w .taxa))
 
 pub roomy : (n : ℕ) (s : Splits) → n ≤ 64 → WellFormed weightLimit n s → length (s .clusters) ≡ 125 → length (s .weights) ≡ 125 → Roomy s
 roomy n s few w hc hw = record { clusters = hc; weights = hw; rows = omega (arith, w .taxa, w .few) }

@@ -22,7 +22,7 @@ use Rattle.statement.specs.Calls.{writeTree, treeWritten, readTree}
 use Rattle.statement.proofs.Listed.{mem-getD}
 use Rattle.statement.proofs.Lowest.{some-at, none-at}
 use Rattle.statement.proofs.Tests.{same-is, neither-is, not-is, fails-is, none-is, not-less-is, unless-is}
-use Rattle.statement.proofs.Walks.{root-is, link-is, home-is, link-later, walks-end}
+use Rattle.statement.proofs.Walks.{root-is, link-is, home-is, cluster-range, ascending, link-later, walks-end}
 use Rattle.statement.proofs.Enlarged.{WellRows}
 use Rattle.statement.proofs.Run.{rows-few}
 use Rattle.statement.proofs.Refused.{passed-done}
@@ -31,7 +31,7 @@ use Rattle.statement.proofs.Outputs.{output-accepted}
 use Rattle.statement.proofs.WellFormed.{well-formed-is}
 use Rattle.statement.proofs.Allowance.{well-rows}
 use Rattle.tree_write.proofs.Reply.{accepted}
-use Rattle.tree_write.proofs.Smallest.{home-smallest, cluster-range, ascending, free-at}
+use Rattle.tree_write.proofs.Smallest.{home-smallest, free-at}
 use Rattle.tree_write.proofs.Clusters.{cluster-of-list, list-tree-list}
 use Rattle.tree_write.proofs.Body.{Sized, tree-size, body-length, body-vertex, vertices-within, tree-in-body}
 
@@ -103,14 +103,14 @@ module _ (n : ℕ) (rows : List Row) (two : 2 ≤ n) (few : n ≤ 64) (well : We
   edge-cluster v l = cluster-of-list n rows (well .clean) v (omega (arith, edges))
 
   edge-passed : Passed (edgeOff n tree)
-  edge-passed v l = ne-eqb (clusterOf tree v n) 0 (λ e. omega (arith, edge-cluster v l, cluster-range n rows (well .clean) v (omega (arith, edges)) .0))
+  edge-passed v l = ne-eqb (clusterOf tree v n) 0 (λ e. omega (arith, edge-cluster v l, cluster-range n rows (well .clean .up) v (omega (arith, edges)) .0))
 
   apart : (v w : ℕ) → v < root tree → w < root tree → v ≢ w → clusterAt rows v ≢ clusterAt rows w
   apart v w lv lw other e = go (decLt v w) (decLt w v)
     where
       go : Dec (v < w) → Dec (w < v) → ⊥
-      go (yes h) d = omega (arith, ascending n rows (well .clean) v w h (omega (arith, edges)))
-      go (no h) (yes g) = omega (arith, ascending n rows (well .clean) w v g (omega (arith, edges)))
+      go (yes h) d = omega (arith, ascending n rows (well .clean .up) v w h (omega (arith, edges)))
+      go (no h) (yes g) = omega (arith, ascending n rows (well .clean .up) w v g (omega (arith, edges)))
       go (no h) (no g) = other (omega arith)
 
   twin-passed : Passed (twinOff n tree)

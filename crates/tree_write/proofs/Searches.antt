@@ -14,11 +14,11 @@ use Rattle.statement.specs.Lowest.{lowest}
 use Rattle.statement.specs.Rows.{Row}
 use Rattle.statement.specs.Tree.{clusterAt, strictlyIn, linkOf, homeOf}
 use Rattle.statement.proofs.Bits.{zero-or-one, bit-ext}
+use Rattle.statement.proofs.Groups.{Part, strictly-is}
 use Rattle.statement.proofs.Mask.{bit-and}
 use Rattle.statement.proofs.Lowest.{lowest-is, lowest-unique}
 use Rattle.statement.proofs.Tests.{fails-is}
 use Rattle.tree_write.specs.Vertices.{ClustersOf}
-use Rattle.tree_write.proofs.Smallest.{Part, strictly-is}
 
 -- a is part of b exactly where the taxa in both are those of a
 mask-part : (n a b : ℕ) → bitAnd a b ≡ a → Part n a b

@@ -11,22 +11,16 @@ use lib.Dec.{eqb}
 use lib.ListN.{length, length-map}
 use borrow.Author.Tests.{eqb-true, eqb-false, eq-eqb, ne-eqb, not-true}
 use Rattle.statement.specs.Cluster.{bit, In, Out}
-use Rattle.statement.specs.Lowest.{lowest, some, none}
-use Rattle.statement.specs.Rows.{Row, clusters}
+use Rattle.statement.specs.Lowest.{lowest}
+use Rattle.statement.specs.Rows.{Row, clusters, Listed}
 use Rattle.statement.specs.Tree.{clusterAt, strictlyIn, linkOf, homeOf}
 use Rattle.statement.proofs.Bits.{zero-or-one, lt-bit}
-use Rattle.statement.proofs.Listed.{asc-mem, asc-getD, mem-getD}
+use Rattle.statement.proofs.Listed.{mem-getD}
 use Rattle.statement.proofs.Lowest.{Lowest, lowest-is}
 use Rattle.statement.proofs.Tests.{same-is, both-is, none-is, unless-is}
+use Rattle.statement.proofs.Groups.{Part, Strictly, strictly-is}
+use Rattle.statement.proofs.Walks.{cluster-range, ascending}
 use Rattle.statement.proofs.Answer.{Clean}
-
--- every taxon below n of the group a is in the group b; strictly, where the two differ
-abbrev pub Part : ℕ → ℕ → ℕ → Type 0
-Part n a b = (t : ℕ) → t < n → In a t → In b t
-
-pub record Strictly (n a b : ℕ) : Type 0 where
-  pub part : Part n a b
-  pub other : a ≢ b
 
 -- row r has THE SMALLEST LISTED CLUSTER that something holds of: it holds there, and every listed cluster that it holds of contains that one;
 -- otherwise r is the root, and it holds of none. No lower row has such a cluster
@@ -43,40 +37,13 @@ LinkSmallest n rows i = Smallest n rows (Strictly n (clusterAt rows i)) (linkOf 
 abbrev pub HomeSmallest : ℕ → List Row → ℕ → Type 0
 HomeSmallest n rows taxon = Smallest n rows (λ c. In c taxon) (homeOf rows taxon)
 
--- the test for "strictly in" says just that
-pub strictly-is : (n a b : ℕ) → (strictlyIn n a b ≡ true) ↔ Strictly n a b
-strictly-is n a b = (λ e. record { part = λ t l h. all .0 e .0 t l (eq-eqb (bit a t) 1 h); other = eqb-false a b (not-true _ (all .0 e .1)) }, λ h. all .1 (λ t l e. h .part t l (eqb-true (bit a t) 1 e), ap not (ne-eqb a b (h .other))))
-  where
-    out-not : (t : ℕ) → (eqb (bit b t) 0 ≡ false) ↔ In b t
-    out-not t = (λ e. at e (zero-or-one b t), λ h. ne-eqb (bit b t) 0 (λ o. omega arith))
-      where
-        at : eqb (bit b t) 0 ≡ false → Out b t ⊎ In b t → In b t
-        at e (inl o) = absurd (eqb-false (bit b t) 0 e o)
-        at e (inr h) = h
-
-    turned : (x : Bool) → (not x ≡ true) ↔ (x ≡ false)
-    turned x = (not-true x, ap not)
-
-    all : (strictlyIn n a b ≡ true) ↔ (((t : ℕ) → t < n → eqb (bit a t) 1 ≡ true → In b t) × (not (eqb a b) ≡ true))
-    all =
-        both-is
-        (Iff·trans (turned (some (λ i. eqb (bit a i) 1 && eqb (bit b i) 0) n))
-        (none-is (λ i. eqb (bit a i) 1 && eqb (bit b i) 0) n (λ t. unless-is (eqb (bit a t) 1) (out-not t))))
-        (λ e. e, λ e. e)
-
 -- ROWS WITHOUT CONFLICT
 module _ (n : ℕ) (rows : List Row) (clean : Clean n (clusters rows)) where
-  count : length (clusters rows) ≡ length rows
-  count = length-map rows (λ r. r .cluster)
-
-  pub cluster-range : (i : ℕ) → i < length rows → (1 ≤ clusterAt rows i) × (clusterAt rows i < 2 ^ n)
-  cluster-range i l = asc-mem 1 (2 ^ n) (clusters rows) (clean .up) (clusterAt rows i) (mem-getD (clusters rows) i (omega (arith, count)))
-
-  pub ascending : (i j : ℕ) → i < j → j < length rows → clusterAt rows i < clusterAt rows j
-  ascending i j l lj = asc-getD 1 (2 ^ n) (clusters rows) (clean .up) i j l (omega (arith, count))
+  listed : (i : ℕ) → i < length rows → Listed (clusterAt rows i) rows
+  listed i l = mem-getD (clusters rows) i (omega (arith, length-map rows (λ r. r .cluster)))
 
   pub free-at : (i : ℕ) → i < length rows → Out (clusterAt rows i) 0
-  free-at i l = clean .free (clusterAt rows i) (mem-getD (clusters rows) i (omega (arith, count)))
+  free-at i l = clean .free (clusterAt rows i) (listed i l)
 
   -- two clusters that share a taxon: the one in the lower row is part of the other
   pub nested : (a b t : ℕ) → a ≤ b → b < length rows → t < n → In (clusterAt rows a) t → In (clusterAt rows b) t → Part n (clusterAt rows a) (clusterAt rows b)
@@ -86,9 +53,10 @@ module _ (n : ℕ) (rows : List Row) (clean : Clean n (clusters rows)) where
       at (inr k) d = k
       at (inl o) (no g) = let e : a ≡ b = omega arith in absurd (omega (arith, ap (λ (x : ℕ). bit (clusterAt rows x) i) e))
       at (inl o) (yes g) =
-          let (j, lj, oj, ij) = lt-bit n (clusterAt rows a) (clusterAt rows b) (ascending a b g lb) (cluster-range b lb .1) in
+          let higher = ascending n rows (clean .up) a b g lb in
+          let (j, lj, oj, ij) = lt-bit n (clusterAt rows a) (clusterAt rows b) higher (cluster-range n rows (clean .up) b lb .1) in
           absurd
-          (clean .clean (clusterAt rows a) (clusterAt rows b) (mem-getD (clusters rows) a (omega (arith, count))) (mem-getD (clusters rows) b (omega (arith, count)))
+          (clean .clean (clusterAt rows a) (clusterAt rows b) (listed a (omega arith)) (listed b lb)
           (record {
             ii = (t, lt, ia, ib);
             io = (i, li, h, o);
@@ -118,7 +86,8 @@ module _ (n : ℕ) (rows : List Row) (clean : Clean n (clusters rows)) where
   pub link-smallest : (i : ℕ) → i < length rows → LinkSmallest n rows i
   unfolding linkOf
   link-smallest i l =
-      let (t, lt, o, h) = lt-bit n 0 (clusterAt rows i) (cluster-range i l .0) (cluster-range i l .1) in
+      let (some, below) = cluster-range n rows (clean .up) i l in
+      let (t, lt, o, h) = lt-bit n 0 (clusterAt rows i) some below in
       smallest-lowest (Strictly n (clusterAt rows i)) (λ j. strictlyIn n (clusterAt rows i) (clusterAt rows j)) t lt
       (λ j. strictly-is n (clusterAt rows i) (clusterAt rows j)) (λ c s. s .part t lt h)
 

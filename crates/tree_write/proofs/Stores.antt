@@ -27,7 +27,8 @@ pub vertices-length : (n : ℕ) (rows : List Row) → length (vertices (treeOf n
 vertices-length n rows = sides n (treeOf n rows) (tree-size n rows) ∙ ap (λ (m : ℕ). m + n) (root-is n rows)
 
 -- one more byte of a list that is being pasted
-pub one-more : (d s o : List ℕ) (at j x : ℕ) → at + j < length d → j < length s → o ≡ paste d at s j → x ≡ getD s j 0 → set o (at + j) x ≡ paste d at s (j + 1)
+pub one-more : (d s o : List ℕ) (at j x : ℕ) → at + j < length d → j < length s → o ≡ paste d at s j → x ≡ getD s j 0
+    → set o (at + j) x ≡ paste d at s (j + 1)
 one-more d s o at j x h k e v =
     ap₂ (λ (l : List ℕ) (y : ℕ). set l (at + j) y) e v ∙ paste-suc d at s j 0 h k ∙ ap (paste d at s) (sym (add-one j))
 
