@@ -8,7 +8,7 @@ use mathlib.Core.Bool.{Bool, true, false, cond, not, _&&_}
 use lib.Dec.{eqb}
 use lib.Pow.{pow-pos}
 use borrow.Author.Tests.{eqb-true, eqb-false, eq-eqb, ne-eqb, not-true}
-use Rattle.statement.specs.Cluster.{bit, In, Out, groupOf}
+use Rattle.statement.specs.Cluster.{bit, In, groupOf}
 use Rattle.statement.specs.Lowest.{some}
 use Rattle.statement.specs.Tree.{strictlyIn}
 use Rattle.statement.proofs.Bits.{lt-bit, bit-plus, bit-past, bit-top}

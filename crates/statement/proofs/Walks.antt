@@ -3,19 +3,13 @@ use Prim.Native.Nat.{ℕ, zero, suc, _+_, _^_, _≤_, _<_}
 use native.Mathlib.Omega.{arith}
 use native.Mathlib.Decide.{decLt}
 use mathlib.Core.Path.{_≡_, refl, sym, _∙_, ap}
-use mathlib.Core.Logic.{_⊎_, inl, inr}
-use mathlib.Core.Bool.{Bool, true, false, not, _&&_, true≢false}
+use mathlib.Core.Bool.{true}
 use mathlib.Core.List.{List, map}
-use lib.Dec.{eqb}
 use lib.ListN.{length, getD, length-map, List·getD-eq-default}
-use borrow.Author.Tests.{eqb-false, eq-eqb, not-true}
-use Rattle.statement.specs.Cluster.{bit, In, Out}
-use Rattle.statement.specs.Lowest.{some}
 use Rattle.statement.specs.Rows.{Row, clusters, Ascending}
 use Rattle.statement.specs.Tree.{numbers, root, clusterAt, strictlyIn, linkOf, homeOf, treeOf, up, walk}
-use Rattle.statement.proofs.Bits.{zero-or-one}
 use Rattle.statement.proofs.Listed.{asc-getD, asc-mem, mem-getD}
-use Rattle.statement.proofs.Lowest.{Lowest, lowest-is, none-of}
+use Rattle.statement.proofs.Lowest.{Lowest, lowest-is}
 use Rattle.statement.proofs.Groups.{Strictly, strictly-is, part-le}
 
 -- the numbers from i on

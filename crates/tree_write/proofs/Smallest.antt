@@ -1,15 +1,14 @@
 -- Links and homes as document 01 says, "The tree": the smallest listed cluster strictly containing that of a row, and the smallest listed
 -- cluster containing a taxon. Of clusters without conflict that share a taxon, the one in the lower row is part of the other. Assumes nothing.
-use Prim.Native.Nat.{ℕ, _^_, _≤_, _<_}
+use Prim.Native.Nat.{ℕ, _≤_, _<_}
 use native.Mathlib.Omega.{arith}
 use native.Mathlib.Decide.{decLt}
 use mathlib.Core.Path.{_≡_, sym, _∙_, ap}
-use mathlib.Core.Logic.{_⊎_, inl, inr, _↔_, _≢_, Iff·trans}
-use mathlib.Core.Bool.{Bool, true, false, not, _&&_, true≢false}
+use mathlib.Core.Logic.{_⊎_, inl, inr, _↔_}
+use mathlib.Core.Bool.{Bool, true, false, true≢false}
 use mathlib.Core.List.{List}
 use lib.Dec.{eqb}
 use lib.ListN.{length, length-map}
-use borrow.Author.Tests.{eqb-true, eqb-false, eq-eqb, ne-eqb, not-true}
 use Rattle.statement.specs.Cluster.{bit, In, Out}
 use Rattle.statement.specs.Lowest.{lowest}
 use Rattle.statement.specs.Rows.{Row, clusters, Listed}
@@ -17,7 +16,7 @@ use Rattle.statement.specs.Tree.{clusterAt, strictlyIn, linkOf, homeOf}
 use Rattle.statement.proofs.Bits.{zero-or-one, lt-bit}
 use Rattle.statement.proofs.Listed.{mem-getD}
 use Rattle.statement.proofs.Lowest.{Lowest, lowest-is}
-use Rattle.statement.proofs.Tests.{same-is, both-is, none-is, unless-is}
+use Rattle.statement.proofs.Tests.{same-is}
 use Rattle.statement.proofs.Groups.{Part, Strictly, strictly-is}
 use Rattle.statement.proofs.Walks.{cluster-range, ascending}
 use Rattle.statement.proofs.Answer.{Clean}
