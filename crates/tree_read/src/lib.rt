@@ -1,0 +1,1 @@
+// A tree read from the body of its record, in any numbering of its vertices.
