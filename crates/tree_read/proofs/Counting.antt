@@ -1,9 +1,10 @@
 -- Tests counted as 0 and 1 over the numbers below n. Assumes nothing.
 use Prim.Native.Nat.{ℕ, zero, suc, _+_, _≤_, _<_}
 use native.Mathlib.Omega.{arith}
+use native.Mathlib.Nat.{eq-or-lt-of-le}
 use native.Mathlib.Decide.{decLt, ℕ-discrete}
 use mathlib.Core.Path.{_≡_, refl, sym, subst}
-use mathlib.Core.Logic.{_⊎_, inl, inr}
+use mathlib.Core.Logic.{_⊎_, inl, inr, ⊎-elim}
 use Rattle.statement.proofs.Tally.{tally}
 
 -- what holds below n and at n holds below suc n
@@ -28,14 +29,7 @@ agree-or-more f g (suc n) h = go (ℕ-discrete (f n) (g n)) (agree-or-more f g n
     go : Dec (f n ≡ g n) → ((v : ℕ) → v < n → f v ≡ g v) ⊎ (tally f n < tally g n)
         → ((v : ℕ) → v < suc n → f v ≡ g v) ⊎ (tally f n + f n < tally g n + g n)
     go (yes e) (inl all) = inl (upto (λ (v : ℕ). f v ≡ g v) n all e)
-    go (no e) (inl all) = let d : f n < g n = apart (h n) e in inr (omega (arith, tally-le f g n h))
-      where
-        apart : f n ≤ g n → (f n ≡ g n → ⊥) → f n < g n
-        apart l ne = less (decLt (f n) (g n))
-          where
-            less : Dec (f n < g n) → f n < g n
-            less (yes k) = k
-            less (no k) = absurd (ne (omega arith))
+    go (no e) (inl all) = inr (⊎-elim (λ q. absurd (e q)) (λ l. omega (arith, tally-le f g n h)) (eq-or-lt-of-le (h n)))
     go d (inr more) = inr (omega (arith, h n))
 
 -- as many as there are places: all of them

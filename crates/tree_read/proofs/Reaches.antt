@@ -12,11 +12,8 @@ use borrow.Author.Tests.{eqb-true, eq-eqb}
 use Rattle.statement.specs.Tree.{Tree, root, up, walk, onWalk}
 use Rattle.statement.proofs.Lowest.{some-at, some-of}
 use Rattle.statement.proofs.Tally.{tally}
+use Rattle.tree_read.specs.Accepted.{Leads}
 use Rattle.tree_read.proofs.Counting.{agree-or-more, all-one}
-
--- some number of steps leads from a to b
-abbrev pub Leads : Tree → ℕ → ℕ → Type 0
-Leads t a b = (s : ℕ) × (walk t s a ≡ b)
 
 module _ (t : Tree) where
   pub up-root : up t (root t) ≡ root t
