@@ -1,1 +1,1 @@
-// The refusals of a tree's body that come before its clusters.
+// later

@@ -18,7 +18,7 @@ use Rattle.statement.specs.Refusals.{AllPassed, Passed, treeFits, treeOff, weig
 use Rattle.statement.proofs.Lowest.{some-of}
 use Rattle.statement.proofs.Tests.{same-is, not-less-is, neither-is, not-is, fails-is, none-is, unless-is}
 use Rattle.statement.proofs.Accepted.{taxa-passed}
-use Rattle.tree_check.proofs.Body.{root-is, link-at, home-at}
+use Rattle.tree_body.proofs.Body.{root-is, link-at, home-at}
 use Rattle.tree_read.specs.Accepted.{AcceptedTree, homeIn, weightAt}
 use Rattle.tree_read.proofs.Reaches.{reaches-is}
 

@@ -4,16 +4,23 @@ use native.Mathlib.Omega.{arith}
 use mathlib.Core.Path.{_≡_, refl, sym, _∙_, ap}
 use mathlib.Core.List.{List, [], _∷_}
 use lib.ListN.{length, getD, take, drop, length-drop, List·getD-eq-default}
-use lib.Seq.{length-take-le, getD-take, getD-drop}
+use lib.Seq.{take-all, length-take-le, getD-take, getD-drop}
 use Rattle.statement.specs.Tree.{Tree, root, up}
 use Rattle.statement.specs.Bytes.{fromFour, fromBytes, treeIn, treeLength}
-use Rattle.tree_check.specs.Words.{wordAt}
+use Rattle.tree_body.specs.Words.{wordAt}
 
 -- within a list it does not matter what is said beyond its end
 pub within-list : (xs : List ℕ) (i d e : ℕ) → i < length xs → getD xs i d ≡ getD xs i e
 within-list [] i d e l = absurd (omega arith)
 within-list (x ∷ xs) zero d e l = refl
 within-list (x ∷ xs) (suc i) d e l = within-list xs i d e (omega arith)
+
+-- the part of k bytes from a on, and all from a on, as the code cuts them
+pub part-of : (a k : ℕ) (xs : List ℕ) → take (a + k - a) (drop a xs) ≡ take k (drop a xs)
+part-of a k xs = let e : a + k - a ≡ k = omega arith in ap (λ (j : ℕ). take j (drop a xs)) e
+
+pub rest-of : (a : ℕ) (xs : List ℕ) → take (length xs - a) (drop a xs) ≡ drop a xs
+rest-of a xs = take-all (length xs - a) (drop a xs) (omega (arith, length-drop a xs))
 
 -- the words of a list of bytes
 past-word : (a b c d : ℕ) (rest : List ℕ) (p q : ℕ) → q ≡ 4 + p → getD (a ∷ b ∷ c ∷ d ∷ rest) q 0 ≡ getD rest p 0
@@ -25,7 +32,7 @@ same-word xs ys p q e = omega (arith, first, e 1, e 2, e 3)
     first : getD xs p 0 ≡ getD ys q 0
     first = ap (λ (i : ℕ). getD xs i 0) (omega arith) ∙ e 0 ∙ ap (λ (i : ℕ). getD ys i 0) (omega arith)
 
-word-at : (xs : List ℕ) (v : ℕ) → 4 * v + 4 ≤ length xs → getD (fromBytes xs) v 0 ≡ wordAt xs (4 * v)
+pub word-at : (xs : List ℕ) (v : ℕ) → 4 * v + 4 ≤ length xs → getD (fromBytes xs) v 0 ≡ wordAt xs (4 * v)
 unfolding fromBytes
 word-at [] v l = absurd (omega arith)
 word-at (a ∷ []) v l = absurd (omega arith)
