@@ -1,0 +1,58 @@
+use borrow.Author.Needs.{needs}
+use Rattle.tree_read.proofs.lowest_empty.Statement.{statement}
+use Rattle.tree_read.proofs.lowest_empty.Tie as tie
+use Rattle.tree_read.proofs.lowest_empty.Reads as reads
+use Rattle.tree_read.proofs.lowest_empty.Lts as lts
+
+abbrev Inv-loop : tie.InvT-loop
+Inv-loop m clusters v₀ v = ?
+
+abbrev μ-loop : tie.MeasureT-loop
+μ-loop m clusters v₀ v = ?
+
+-- src/lib.rt:73:5
+loop-holds : tie.Need-loop-holds Inv-loop μ-loop
+loop-holds c = search needs
+
+-- src/lib.rt:74:12
+mul-if1 : tie.Need-mul-if1 Inv-loop μ-loop
+mul-if1 c = search needs
+
+-- src/lib.rt:74:12
+element-copy-out-if1 : tie.Need-element-copy-out-if1 Inv-loop μ-loop
+element-copy-out-if1 c = search needs
+
+-- src/lib.rt:75:13
+returns : tie.Need-returns Inv-loop μ-loop
+returns c = search needs
+
+-- src/lib.rt:77:9
+add-v : tie.Need-add-v Inv-loop μ-loop
+add-v c = search needs
+
+-- src/lib.rt:73:5
+loop-less : tie.Need-loop-less Inv-loop μ-loop
+loop-less c = search needs
+
+-- src/lib.rt:73:5
+loop-again : tie.Need-loop-again Inv-loop μ-loop
+loop-again c = search needs
+
+-- src/lib.rt:68:1
+returns-2 : tie.Need-returns-2 Inv-loop μ-loop
+returns-2 c = search needs
+
+pub lowest-empty-spec : {M : Type 1} → statement M
+lowest-empty-spec =
+    tie.close
+    (tie.spec
+    Inv-loop
+    μ-loop
+    loop-holds
+    mul-if1
+    element-copy-out-if1
+    returns
+    add-v
+    loop-less
+    loop-again
+    returns-2)

@@ -1,0 +1,73 @@
+use borrow.Author.Needs.{needs}
+use Rattle.tree_read.proofs.next_edge.Statement.{statement}
+use Rattle.tree_read.proofs.next_edge.Tie as tie
+use Rattle.tree_read.proofs.next_edge.Reads as reads
+use Rattle.tree_read.proofs.next_edge.Lts as lts
+
+abbrev Inv-loop : tie.InvT-loop
+Inv-loop m clusters low best₀ v₀ best v = ?
+
+abbrev μ-loop : tie.MeasureT-loop
+μ-loop m clusters low best₀ v₀ best v = ?
+
+-- src/lib.rt:121:5
+loop-holds : tie.Need-loop-holds Inv-loop μ-loop
+loop-holds c = search needs
+
+-- src/lib.rt:122:18
+mul-if1 : tie.Need-mul-if1 Inv-loop μ-loop
+mul-if1 c = search needs
+
+-- src/lib.rt:122:18
+element-copy-out-if1 : tie.Need-element-copy-out-if1 Inv-loop μ-loop
+element-copy-out-if1 c = search needs
+
+-- src/lib.rt:125:23
+mul-if3 : tie.Need-mul-if3 Inv-loop μ-loop
+mul-if3 c = search needs
+
+-- src/lib.rt:125:23
+element-copy-out-if3 : tie.Need-element-copy-out-if3 Inv-loop μ-loop
+element-copy-out-if3 c = search needs
+
+-- src/lib.rt:125:37
+mul-if3-2 : tie.Need-mul-if3-2 Inv-loop μ-loop
+mul-if3-2 c = search needs
+
+-- src/lib.rt:125:37
+element-copy-out-if3-2 : tie.Need-element-copy-out-if3-2 Inv-loop μ-loop
+element-copy-out-if3-2 c = search needs
+
+-- src/lib.rt:129:9
+add-v : tie.Need-add-v Inv-loop μ-loop
+add-v c = search needs
+
+-- src/lib.rt:121:5
+loop-less : tie.Need-loop-less Inv-loop μ-loop
+loop-less c = search needs
+
+-- src/lib.rt:121:5
+loop-again : tie.Need-loop-again Inv-loop μ-loop
+loop-again c = search needs
+
+-- src/lib.rt:115:1
+returns : tie.Need-returns Inv-loop μ-loop
+returns c = search needs
+
+pub next-edge-spec : {M : Type 1} → statement M
+next-edge-spec =
+    tie.close
+    (tie.spec
+    Inv-loop
+    μ-loop
+    loop-holds
+    mul-if1
+    element-copy-out-if1
+    mul-if3
+    element-copy-out-if3
+    mul-if3-2
+    element-copy-out-if3-2
+    add-v
+    loop-less
+    loop-again
+    returns)

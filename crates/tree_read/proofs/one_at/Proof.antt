@@ -1,0 +1,16 @@
+use borrow.Author.Needs.{needs}
+use Rattle.tree_read.proofs.one_at.Statement.{statement}
+use Rattle.tree_read.proofs.one_at.Tie as tie
+use Rattle.tree_read.proofs.one_at.Reads as reads
+use Rattle.tree_read.proofs.one_at.Lts as lts
+
+-- src/lib.rt:27:5
+shl-result : tie.Need-shl-result
+shl-result c = search needs
+
+-- src/lib.rt:23:1
+returns : tie.Need-returns
+returns c = search needs
+
+pub one-at-spec : {M : Type 1} → statement M
+one-at-spec = tie.close (tie.spec shl-result returns)
