@@ -6,3 +6,5 @@ pub mod Sorting
 pub mod Rows
 pub mod Marking
 pub mod Selection
+pub mod Twins
+pub mod Replies

@@ -14,7 +14,7 @@ use Rattle.statement.specs.Lowest.{some}
 use Rattle.statement.specs.Matrix.{weightLimit}
 use Rattle.statement.specs.Tree.{Tree, root, up, onWalk, clusterOf}
 use Rattle.statement.specs.Bytes.{treeIn, treeLength}
-use Rattle.statement.specs.Refusals.{AllPassed, Passed, treeFits, treeOff, weightOff, walkOff, homeOff, edgeOff, twinOff, treeChecks}
+use Rattle.statement.specs.Refusals.{AllPassed, Passed, taxaOff, lengthOff, treeFits, treeOff, weightOff, walkOff, homeOff, edgeOff, twinOff, treeChecks}
 use Rattle.statement.proofs.Lowest.{some-of}
 use Rattle.statement.proofs.Tests.{same-is, not-less-is, neither-is, not-is, fails-is, none-is, unless-is}
 use Rattle.statement.proofs.Accepted.{taxa-passed}
@@ -48,15 +48,31 @@ twin-passed n t p u v lu lv e = go (ℕ-discrete u v)
     go (yes q) = q
     go (no d) = absurd (other v (ap not (ne-eqb u v d)) e lv)
 
+-- what the checks 1, 2 and 9 say together
+pub record Shape (n : ℕ) (body : List ℕ) : Type 0 where
+  pub two : 2 ≤ n
+  pub few : n ≤ 64
+  pub sized : length body ≡ treeLength n (getD body 0 0)
+  pub edges : getD body 0 0 + 3 ≤ 2 * n
+  pub low : (i : ℕ) → i < getD body 0 0 + n → getD body (1 + i) 0 ≤ getD body 0 0
+
+pub shape-of : (n : ℕ) (body : List ℕ) → Passed (taxaOff n) → Passed (lengthOff (treeFits n (length body))) → Passed (treeOff n body) → Shape n body
+shape-of n body p1 p2 p9 =
+    let (two, few) = taxa-passed n .0 p1 in
+    let (sized, low) = shape-passed n body p9 in
+    let fits : treeFits n (length body) ≡ true = not-is ((λ e. e), (λ e. e)) .0 (p2 0 (omega arith)) in
+    let (m, l, e) = some-of (λ m. eqb (length body) (treeLength n m)) (2 * n - 2) fits in
+    record { two = two; few = few; sized = sized; edges = omega (arith, same-is (length body) (treeLength n m) .0 e); low = low }
+
 -- THE CHECKS PASSED
 pub tree-accepted : (n : ℕ) (body : List ℕ) → AllPassed (treeChecks n body) → AcceptedTree n (treeIn n body)
 tree-accepted n body (p1, (p2, (p9, (p14, (p10, (p11, (p12, (p13, u)))))))) =
     record {
-      two = taxa .0;
-      few = taxa .1;
-      edges = omega (arith, isRoot, edges);
+      two = shape .two;
+      few = shape .few;
+      edges = omega (arith, edges, shape .edges);
       linked = linked;
-      housed = λ i l. omega (arith, isRoot, home-at n body sized i l, shape .1 (getD body 0 0 + i) (omega arith), ap (λ (k : ℕ). getD body k 0) (places i));
+      housed = λ i l. omega (arith, edges, home-at n body (shape .sized) i l, shape .low (getD body 0 0 + i) (omega arith), ap (λ (k : ℕ). getD body k 0) (places i));
       weighed = weight-passed (treeIn n body) p14;
       rooted = λ v l. not-is (reaches-is (treeIn n body) linked v (omega arith)) .0 (p10 v l);
       first = not-is (same-is (homeIn (treeIn n body) 0) (root (treeIn n body))) .0 (p11 0 (omega arith));
@@ -64,26 +80,16 @@ tree-accepted n body (p1, (p2, (p9, (p14, (p10, (p11, (p12, (p13, u)))))))) =
       apart = twin-passed n (treeIn n body) p13;
     }
   where
-    taxa : (2 ≤ n) × (n ≤ 64)
-    taxa = taxa-passed n .0 p1
+    shape : Shape n body
+    shape = shape-of n body p1 p2 p9
 
-    shape : (length body ≡ treeLength n (getD body 0 0)) × ((i : ℕ) → i < getD body 0 0 + n → getD body (1 + i) 0 ≤ getD body 0 0)
-    shape = shape-passed n body p9
-
-    sized : length body ≡ treeLength n (getD body 0 0)
-    sized = shape .0
-
-    isRoot : root (treeIn n body) ≡ getD body 0 0
-    isRoot = root-is n body sized
+    edges : root (treeIn n body) ≡ getD body 0 0
+    edges = root-is n body (shape .sized)
 
     places : (i : ℕ) → 1 + (getD body 0 0 + i) ≡ 1 + getD body 0 0 + i
     places i = omega arith
 
-    fits : treeFits n (length body) ≡ true
-    fits = not-is ((λ e. e), (λ e. e)) .0 (p2 0 (omega arith))
-
-    edges : getD body 0 0 < 2 * n - 2
-    edges = let (m, l, e) = some-of (λ m. eqb (length body) (treeLength n m)) (2 * n - 2) fits in omega (arith, sized, same-is (length body) (treeLength n m) .0 e)
-
     linked : (v : ℕ) → v < root (treeIn n body) → up (treeIn n body) v ≤ root (treeIn n body)
-    linked v l = let h : v < getD body 0 0 = omega (arith, isRoot) in omega (arith, isRoot, link-at n body sized v h, shape .1 v (omega arith))
+    linked v l =
+        let h : v < getD body 0 0 = omega (arith, edges) in
+        omega (arith, edges, link-at n body (shape .sized) v h, shape .low v (omega arith))

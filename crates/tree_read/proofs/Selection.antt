@@ -98,3 +98,8 @@ module _ (n m : ℕ) (cs ws : List ℕ) (e : Edges n m (λ v. getD cs v 0)) wher
 
   pub rows-all : (i : ℕ) → m ≤ i → take i (sortedOf (rowAt cs ws) m) ≡ sortedOf (rowAt cs ws) m
   rows-all i h = take-all i (sortedOf (rowAt cs ws) m) (omega (arith, sorted-count (rowAt cs ws) m))
+
+  pub rows-so-far : (i : ℕ) (list : Splits) → i ≤ m → list ≡ listOf n (take i (sortedOf (rowAt cs ws) m)) → list .rows ≡ i
+  unfolding listOf
+  rows-so-far i list l is =
+      ap (λ (s : Splits). s .rows) is ∙ length-take-le i (sortedOf (rowAt cs ws) m) (omega (arith, sorted-count (rowAt cs ws) m))

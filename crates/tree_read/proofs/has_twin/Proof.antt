@@ -1,18 +1,30 @@
+-- The edges passed are v itself or have other clusters.
+use Prim.Native.Nat.{ℕ, _-_, _≤_, _<_}
+use native.Mathlib.Omega.{arith}
 use borrow.Author.Needs.{needs}
+use borrow.Author.Count.{below-none, below-more}
+use mathlib.Core.Path.{_≡_, sym, _∙_}
+use mathlib.Core.Bool.{true, false, not, _&&_}
+use lib.Dec.{eqb}
+use lib.ListN.{getD}
+use mathlib.Core.Logic.{⊎-elim}
+use borrow.Author.Tests.{eq-eqb, ne-eqb}
+use Rattle.statement.proofs.Lowest.{some-at, none-at}
+use Rattle.tree_read.proofs.Twins.{twin, itself, other}
 use Rattle.tree_read.proofs.has_twin.Statement.{statement}
 use Rattle.tree_read.proofs.has_twin.Tie as tie
 use Rattle.tree_read.proofs.has_twin.Reads as reads
 use Rattle.tree_read.proofs.has_twin.Lts as lts
 
 abbrev Inv-loop : tie.InvT-loop
-Inv-loop m clusters v w₀ w = ?
+Inv-loop m clusters v w₀ w = (w ≤ m) × ((j : ℕ) → j < w → (not (eqb v j) && eqb (getD clusters v 0) (getD clusters j 0)) ≡ false)
 
 abbrev μ-loop : tie.MeasureT-loop
-μ-loop m clusters v w₀ w = ?
+μ-loop m clusters v w₀ w = m - w
 
 -- src/lib.rt:88:5
 loop-holds : tie.Need-loop-holds Inv-loop μ-loop
-loop-holds c = search needs
+loop-holds c = (omega arith, below-none _)
 
 -- src/lib.rt:90:16
 mul-if2 : tie.Need-mul-if2 Inv-loop μ-loop
@@ -32,7 +44,12 @@ element-copy-out-if2-2 c = search needs
 
 -- src/lib.rt:91:17
 returns : tie.Need-returns Inv-loop μ-loop
-returns c = search needs
+returns c =
+    let l = c .before .before .before .before .before in
+    let a = l .before .args in
+    let cs = a .clusters .now in
+    sym (some-at (λ w. not (eqb (a .v) w) && eqb (getD cs (a .v) 0) (getD cs w 0)) (a .m) (l .loop .w) (omega arith)
+    (twin cs (a .v) (l .loop .w) (c .before .before .before .if1 .taken) (c .if2 .taken)))
 
 -- src/lib.rt:94:9
 add-w : tie.Need-add-w Inv-loop μ-loop
@@ -44,11 +61,23 @@ loop-less c = search needs
 
 -- src/lib.rt:88:5
 loop-again : tie.Need-loop-again Inv-loop μ-loop
-loop-again c = search needs
+loop-again c =
+    let l = c .before .before in
+    let a = l .before .args in
+    let cs = a .clusters .now in
+    (
+      omega arith,
+      below-more _ _ (l .loop .inv .1)
+      (⊎-elim (λ w. other cs (a .v) (l .loop .w) (w .0 .taken) (w .3 .left)) (λ w. itself cs (a .v) (l .loop .w) (w .left)) (c .if1 .came)),
+    )
 
 -- src/lib.rt:83:1
 returns-2 : tie.Need-returns-2 Inv-loop μ-loop
-returns-2 c = search needs
+returns-2 c =
+    let l = c .before in
+    let a = l .before .args in
+    let cs = a .clusters .now in
+    sym (none-at (λ w. not (eqb (a .v) w) && eqb (getD cs (a .v) 0) (getD cs w 0)) (a .m) (λ j h. l .loop .inv .1 j (omega arith)))
 
 pub has-twin-spec : {M : Type 1} → statement M
 has-twin-spec =

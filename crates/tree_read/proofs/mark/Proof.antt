@@ -1,4 +1,15 @@
+-- The edges among the first s places of the walk are marked.
+use Prim.Native.Nat.{suc, _-_, _≤_}
+use native.Mathlib.Omega.{arith}
 use borrow.Author.Needs.{needs}
+use mathlib.Core.Path.{_≡_, refl}
+use mathlib.Core.Logic.{⊎-elim}
+use lib.ListN.{length}
+use Rattle.statement.specs.Tree.{walk}
+use Rattle.tree_check.specs.Parts.{linked}
+use Rattle.tree_check.proofs.Walked.{walk-next}
+use Rattle.tree_read.specs.Columns.{Marked}
+use Rattle.tree_read.proofs.Marking.{mark-none, mark-root, mark-kept, mark-put}
 use Rattle.tree_read.proofs.mark.Statement.{statement}
 use Rattle.tree_read.proofs.mark.Tie as tie
 use Rattle.tree_read.proofs.mark.Reads as reads
@@ -6,14 +17,15 @@ use Rattle.tree_read.proofs.mark.Lts as lts
 use Rattle.tree_check.proofs.step_up.Reads as step-up-reads
 
 abbrev Inv-loop : tie.InvT-loop
-Inv-loop links home group marked₀ m at₀ s₀ marked at s = ?
+Inv-loop links home group marked₀ m at₀ s₀ marked at s = (s ≤ suc m) × (at ≡ walk (linked links) s home) × Marked links home group s marked₀ marked
 
 abbrev μ-loop : tie.MeasureT-loop
-μ-loop links home group marked₀ m at₀ s₀ marked at s = ?
+μ-loop links home group marked₀ m at₀ s₀ marked at s = suc m - s
 
 -- src/lib.rt:40:5
 loop-holds : tie.Need-loop-holds Inv-loop μ-loop
-loop-holds c = search needs
+unfolding walk
+loop-holds c = (omega arith, refl, mark-none _ _ _ _ (c .before .pre .0 .1))
 
 -- src/lib.rt:42:16
 mul-if2 : tie.Need-mul-if2 Inv-loop μ-loop
@@ -57,11 +69,28 @@ loop-less c = search needs
 
 -- src/lib.rt:40:5
 loop-again : tie.Need-loop-again Inv-loop μ-loop
-loop-again c = search needs
+loop-again c =
+    let l = c .before .before .before in
+    let p = l .before .before in
+    let a = p .args in
+    let links = a .links .now in
+    let at = l .loop .inv .1 in
+    let marked = l .loop .inv .2 in
+    (
+      omega arith,
+      walk-next (linked links) (l .loop .s) (a .home) (l .loop .at) _ at (c .step-up .ensures),
+      ⊎-elim (λ w. rw (w .2) (mark-put links (a .home) (a .group) (l .loop .s) (l .loop .at) (a .clusters) (l .loop .marked) at marked (w .0 .taken) (p .pre .1 _ (w .0 .taken)) (omega arith) (w .1 .taken)))
+      (⊎-elim (λ w. rw (w .2) (mark-kept links (a .home) (a .group) (l .loop .s) (l .loop .at) (a .clusters) (l .loop .marked) at marked (w .0 .taken) (p .pre .1 _ (w .0 .taken)) (w .1 .left)))
+      (λ w. rw (w .1) (mark-root links (a .home) (a .group) (l .loop .s) (l .loop .at) (a .clusters) (l .loop .marked) at marked (w .0 .left))))
+      (c .before .if1 .came),
+    )
 
 -- src/lib.rt:31:1
 returns : tie.Need-returns Inv-loop μ-loop
-returns c = search needs
+returns c =
+    let l = c .before in
+    let e : l .loop .s ≡ suc (length (l .before .before .args .links .now)) = omega arith in
+    rw e at (l .loop .inv .2)
 
 pub mark-spec : {M : Type 1} → statement M
 mark-spec =

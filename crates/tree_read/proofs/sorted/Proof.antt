@@ -1,3 +1,17 @@
+-- The first i rows are in the list, and low is the cluster of the last of them.
+use Prim.Native.Nat.{ℕ, _*_, _-_, _≤_, _<_}
+use native.Mathlib.Omega.{arith}
+use borrow.Author.Needs.{needs}
+use mathlib.Core.Path.{_≡_, refl, sym, _∙_, ap}
+use lib.ListN.{length, getD, take}
+use lib.Seq.{length-take-le}
+use Rattle.statement.specs.declared.Splits.{Splits}
+use Rattle.statement.specs.Rows.{listOf}
+use Rattle.statement.specs.Bytes.{fromBytes}
+use Rattle.tree_body.proofs.Body.{word-at}
+use Rattle.tree_read.specs.Selected.{rowAt, sortedOf}
+use Rattle.tree_read.proofs.Sorting.{sorted-count}
+use Rattle.tree_read.proofs.Selection.{lastCluster, next-within, next-last, row-pushed, rows-all, rows-so-far}
 use Rattle.tree_read.proofs.sorted.Statement.{statement}
 use Rattle.tree_read.proofs.sorted.Tie as tie
 use Rattle.tree_read.proofs.sorted.Reads as reads
@@ -8,58 +22,92 @@ use Rattle.tree_body.proofs.word_at.Reads as word-at-reads
 use Rattle.tree_read.proofs.next_edge.Reads as next-edge-reads
 
 abbrev Inv-loop : tie.InvT-loop
-Inv-loop n m clusters bytes list₀ low₀ i₀ list low i = ?
+Inv-loop n m clusters bytes list₀ low₀ i₀ list low i = (i ≤ m) × (list ≡ listOf n (take i (sortedOf (rowAt clusters (fromBytes bytes)) m))) × (low ≡ lastCluster (sortedOf (rowAt clusters (fromBytes bytes)) m) i)
 
 abbrev μ-loop : tie.MeasureT-loop
-μ-loop n m clusters bytes list₀ low₀ i₀ list low i = ?
+μ-loop n m clusters bytes list₀ low₀ i₀ list low i = m - i
 
 -- src/lib.rt:139:9
 empty-requires : tie.Need-empty-requires Inv-loop μ-loop
-empty-requires c κs = ?
+empty-requires c κs = search needs
 
 -- src/lib.rt:142:5
 loop-holds : tie.Need-loop-holds Inv-loop μ-loop
-loop-holds c = ?
+unfolding lastCluster
+loop-holds c = (omega arith, c .empty .ensures, refl)
 
 -- src/lib.rt:143:13
 next-edge-requires : tie.Need-next-edge-requires Inv-loop μ-loop
-next-edge-requires c κs = ?
+next-edge-requires c κs = search needs
 
 -- src/lib.rt:144:15
+-- there is a next row
+chosen : (c : tie.After-next-edge Inv-loop μ-loop) → c .next-edge .result < c .before .before .before .before .before .args .m
+chosen c =
+    let l = c .before .before in
+    let p = l .before .before .before in
+    let a = p .args in
+    next-within (a .n) (a .m) (a .clusters .now) (fromBytes (a .bytes .now)) (p .pre .2) (l .loop .i) (l .loop .low) (c .next-edge .result) (omega arith)
+    (l .loop .inv .2) (c .next-edge .ensures)
+
 mul-low : tie.Need-mul-low Inv-loop μ-loop
-mul-low c = ?
+mul-low c = omega (arith, chosen c)
 
 -- src/lib.rt:144:15
 element-copy-out-low : tie.Need-element-copy-out-low Inv-loop μ-loop
-element-copy-out-low c = ?
+element-copy-out-low c = omega (arith, chosen c)
 
 -- src/lib.rt:145:53
 mul-word-at : tie.Need-mul-word-at Inv-loop μ-loop
-mul-word-at c = ?
+mul-word-at c = omega (arith, chosen (c .before))
 
 -- src/lib.rt:145:38
 word-at-requires : tie.Need-word-at-requires Inv-loop μ-loop
-word-at-requires c κs = ?
+word-at-requires c κs = omega (arith, chosen (c .before))
 
 -- src/lib.rt:145:13
 push-requires : tie.Need-push-requires Inv-loop μ-loop
-push-requires c κs = ?
+push-requires c κs =
+    let l = c .before .before .before .before in
+    let p = l .before .before .before in
+    let a = p .args in
+    let cs = a .clusters .now in
+    let ws = fromBytes (a .bytes .now) in
+    omega (arith, rows-so-far (a .n) (a .m) cs ws (p .pre .2) (l .loop .i) (l .loop .list) (l .loop .inv .0) (l .loop .inv .1))
 
 -- src/lib.rt:147:9
 add-i : tie.Need-add-i Inv-loop μ-loop
-add-i c = ?
+add-i c = search needs
 
 -- src/lib.rt:142:5
 loop-less : tie.Need-loop-less Inv-loop μ-loop
-loop-less c = ?
+loop-less c = search needs
 
 -- src/lib.rt:142:5
 loop-again : tie.Need-loop-again Inv-loop μ-loop
-loop-again c = ?
+loop-again c =
+    let l = c .before .before .before .before .before in
+    let p = l .before .before .before in
+    let a = p .args in
+    let cs = a .clusters .now in
+    let ws = fromBytes (a .bytes .now) in
+    let next = c .before .before .before .next-edge in
+    let weight = c .before .word-at .ensures ∙ sym (word-at (a .bytes .now) (next .result) (omega (arith, chosen (c .before .before .before)))) in
+    (
+      omega arith,
+      c .push .ensures ∙ row-pushed (a .n) (a .m) cs ws (p .pre .2) (l .loop .i) (l .loop .low) (next .result) (omega arith) (l .loop .inv .2) (next .ensures) (l .loop .list) _ (omega arith) (l .loop .inv .1) weight,
+      next-last (a .n) (a .m) cs ws (p .pre .2) (l .loop .i) (l .loop .low) (next .result) (omega arith) (l .loop .inv .2) (next .ensures),
+    )
 
 -- src/lib.rt:135:1
 returns : tie.Need-returns Inv-loop μ-loop
-returns c = ?
+returns c =
+    let l = c .before in
+    let p = l .before .before .before in
+    let a = p .args in
+    let cs = a .clusters .now in
+    let ws = fromBytes (a .bytes .now) in
+    l .loop .inv .1 ∙ ap (listOf (a .n)) (rows-all (a .n) (a .m) cs ws (p .pre .2) (l .loop .i) (omega arith))
 
 pub sorted-spec : {M : Type 1} → statement M
 sorted-spec =
