@@ -1,9 +1,17 @@
 // A tree read from its body, in any numbering of its vertices: the clusters of its edges, the checks of them, and the list of its rows.
 // Document 01, "The tree"; "Refusal numbers", 12 and 13.
-use statement::{Splits, Outcome, Reading};
-use splits_list::{empty, push};
-use tree_body::{vertex, links_in, homes_in, weights_in, word_at};
-use tree_check::{check, step_up};
+use splits_list::empty;
+use splits_list::push;
+use statement::Outcome;
+use statement::Reading;
+use statement::Splits;
+use tree_body::homes_in;
+use tree_body::links_in;
+use tree_body::vertex;
+use tree_body::weights_in;
+use tree_body::word_at;
+use tree_check::check;
+use tree_check::step_up;
 ghost use mathlib.Core.Path.{_≡_};
 ghost use mathlib.Core.Bool.{not, _&&_};
 ghost use Prim.Native.Nat.{ℕ, suc, _+_, _*_, _^_, _<_, _≤_};

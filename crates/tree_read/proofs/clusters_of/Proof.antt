@@ -11,11 +11,6 @@ use Rattle.tree_check.specs.Parts.{linked, placed}
 use Rattle.tree_read.proofs.Marking.{cluster-none, cluster-below, cluster-more}
 use Rattle.tree_read.proofs.clusters_of.Statement.{statement}
 use Rattle.tree_read.proofs.clusters_of.Tie as tie
-use Rattle.tree_read.proofs.clusters_of.Reads as reads
-use Rattle.tree_read.proofs.clusters_of.Lts as lts
-use Rattle.tree_body.proofs.vertex.Reads as vertex-reads
-use Rattle.tree_read.proofs.mark.Reads as mark-reads
-use Rattle.tree_read.proofs.one_at.Reads as one-at-reads
 
 abbrev Inv-loop : tie.InvT-loop
 Inv-loop links homes clusters₀ i₀ clusters i = (i ≤ length homes) × (length clusters ≡ 125) × ((v : ℕ) → v < length links → getD clusters v 0 ≡ clusterOf (placed links homes) v i)
@@ -23,55 +18,44 @@ Inv-loop links homes clusters₀ i₀ clusters i = (i ≤ length homes) × (leng
 abbrev μ-loop : tie.MeasureT-loop
 μ-loop links homes clusters₀ i₀ clusters i = length homes - i
 
--- src/lib.rt:59:5
 loop-holds : tie.Need-loop-holds Inv-loop μ-loop
 loop-holds c = (omega arith, refl, λ v h. getD-replicate 125 v 0 0 (omega arith) ∙ sym (cluster-none (placed (c .before .before .args .links .now) (c .before .before .args .homes .now)) v))
 
--- src/lib.rt:60:49
 shared-slice-read-vertex : tie.Need-shared-slice-read-vertex Inv-loop μ-loop
 shared-slice-read-vertex c = search needs
 
--- src/lib.rt:60:42
 vertex-requires : tie.Need-vertex-requires Inv-loop μ-loop
 vertex-requires c κs = search needs
 
--- src/lib.rt:60:60
 one-at-requires : tie.Need-one-at-requires Inv-loop μ-loop
 one-at-requires c κs = search needs
 
--- src/lib.rt:60:13
 mark-requires : tie.Need-mark-requires Inv-loop μ-loop
 mark-requires c κs =
     let l = c .before .before .before .before in
     let a = l .before .before .before .args in
     let t = placed (a .links .now) (a .homes .now) in
-    let one = c .one-at .ensures in
-    (
+    let one = c .one-at .ensures in (
       (omega arith, l .loop .inv .1, omega (arith, pow-mono {i = l .loop .i} {j = 63} (omega arith))),
       λ v h. omega (arith, l .loop .inv .2 v h, cluster-below t v (l .loop .i)),
     )
 
--- src/lib.rt:62:9
 add-i : tie.Need-add-i Inv-loop μ-loop
 add-i c = search needs
 
--- src/lib.rt:59:5
 loop-less : tie.Need-loop-less Inv-loop μ-loop
 loop-less c = search needs
 
--- src/lib.rt:59:5
 loop-again : tie.Need-loop-again Inv-loop μ-loop
 loop-again c =
     let l = c .before .before .before .before .before in
     let a = l .before .before .before .args in
-    let marked = c .mark .ensures in
-    (
+    let marked = c .mark .ensures in (
       omega arith,
       marked .long,
       λ v h. cluster-more (a .links .now) (a .homes .now) v (l .loop .i) _ _ _ _ (l .loop .inv .2 v h) (c .before .before .vertex .ensures) (c .before .one-at .ensures) (marked .each v h),
     )
 
--- src/lib.rt:53:1
 returns : tie.Need-returns Inv-loop μ-loop
 returns c =
     let l = c .before in

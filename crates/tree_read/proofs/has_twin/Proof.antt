@@ -13,8 +13,6 @@ use Rattle.statement.proofs.Lowest.{some-at, none-at}
 use Rattle.tree_read.proofs.Twins.{twin, itself, other}
 use Rattle.tree_read.proofs.has_twin.Statement.{statement}
 use Rattle.tree_read.proofs.has_twin.Tie as tie
-use Rattle.tree_read.proofs.has_twin.Reads as reads
-use Rattle.tree_read.proofs.has_twin.Lts as lts
 
 abbrev Inv-loop : tie.InvT-loop
 Inv-loop m clusters v w₀ w = (w ≤ m) × ((j : ℕ) → j < w → (not (eqb v j) && eqb (getD clusters v 0) (getD clusters j 0)) ≡ false)
@@ -22,27 +20,21 @@ Inv-loop m clusters v w₀ w = (w ≤ m) × ((j : ℕ) → j < w → (not (eqb v
 abbrev μ-loop : tie.MeasureT-loop
 μ-loop m clusters v w₀ w = m - w
 
--- src/lib.rt:88:5
 loop-holds : tie.Need-loop-holds Inv-loop μ-loop
 loop-holds c = (omega arith, below-none _)
 
--- src/lib.rt:90:16
 mul-if2 : tie.Need-mul-if2 Inv-loop μ-loop
 mul-if2 c = search needs
 
--- src/lib.rt:90:16
 element-copy-out-if2 : tie.Need-element-copy-out-if2 Inv-loop μ-loop
 element-copy-out-if2 c = search needs
 
--- src/lib.rt:90:31
 mul-if2-2 : tie.Need-mul-if2-2 Inv-loop μ-loop
 mul-if2-2 c = search needs
 
--- src/lib.rt:90:31
 element-copy-out-if2-2 : tie.Need-element-copy-out-if2-2 Inv-loop μ-loop
 element-copy-out-if2-2 c = search needs
 
--- src/lib.rt:91:17
 returns : tie.Need-returns Inv-loop μ-loop
 returns c =
     let l = c .before .before .before .before .before in
@@ -51,27 +43,22 @@ returns c =
     sym (some-at (λ w. not (eqb (a .v) w) && eqb (getD cs (a .v) 0) (getD cs w 0)) (a .m) (l .loop .w) (omega arith)
     (twin cs (a .v) (l .loop .w) (c .before .before .before .if1 .taken) (c .if2 .taken)))
 
--- src/lib.rt:94:9
 add-w : tie.Need-add-w Inv-loop μ-loop
 add-w c = search needs
 
--- src/lib.rt:88:5
 loop-less : tie.Need-loop-less Inv-loop μ-loop
 loop-less c = search needs
 
--- src/lib.rt:88:5
 loop-again : tie.Need-loop-again Inv-loop μ-loop
 loop-again c =
     let l = c .before .before in
     let a = l .before .args in
-    let cs = a .clusters .now in
-    (
+    let cs = a .clusters .now in (
       omega arith,
       below-more _ _ (l .loop .inv .1)
-      (⊎-elim (λ w. other cs (a .v) (l .loop .w) (w .0 .taken) (w .3 .left)) (λ w. itself cs (a .v) (l .loop .w) (w .left)) (c .if1 .came)),
+          (⊎-elim (λ w. other cs (a .v) (l .loop .w) (w .0 .taken) (w .3 .left)) (λ w. itself cs (a .v) (l .loop .w) (w .left)) (c .if1 .came)),
     )
 
--- src/lib.rt:83:1
 returns-2 : tie.Need-returns-2 Inv-loop μ-loop
 returns-2 c =
     let l = c .before in

@@ -11,8 +11,6 @@ use borrow.Author.Tests.{eq-eqb, ne-eqb}
 use Rattle.tree_check.proofs.Search.{found, missed}
 use Rattle.tree_read.proofs.lowest_empty.Statement.{statement}
 use Rattle.tree_read.proofs.lowest_empty.Tie as tie
-use Rattle.tree_read.proofs.lowest_empty.Reads as reads
-use Rattle.tree_read.proofs.lowest_empty.Lts as lts
 
 abbrev Inv-loop : tie.InvT-loop
 Inv-loop m clusters v₀ v = (v ≤ m) × ((j : ℕ) → j < v → eqb (getD clusters j 0) 0 ≡ false)
@@ -20,38 +18,30 @@ Inv-loop m clusters v₀ v = (v ≤ m) × ((j : ℕ) → j < v → eqb (getD clu
 abbrev μ-loop : tie.MeasureT-loop
 μ-loop m clusters v₀ v = m - v
 
--- src/lib.rt:73:5
 loop-holds : tie.Need-loop-holds Inv-loop μ-loop
 loop-holds c = (omega arith, below-none _)
 
--- src/lib.rt:74:12
 mul-if1 : tie.Need-mul-if1 Inv-loop μ-loop
 mul-if1 c = search needs
 
--- src/lib.rt:74:12
 element-copy-out-if1 : tie.Need-element-copy-out-if1 Inv-loop μ-loop
 element-copy-out-if1 c = search needs
 
--- src/lib.rt:75:13
 returns : tie.Need-returns Inv-loop μ-loop
 returns c =
     let l = c .before .before .before in
     let a = l .before .args in
     found (λ v. eqb (getD (a .clusters .now) v 0) 0) (a .m) (l .loop .v) (l .loop .inv .1) (omega arith) (eq-eqb _ _ (c .if1 .taken))
 
--- src/lib.rt:77:9
 add-v : tie.Need-add-v Inv-loop μ-loop
 add-v c = search needs
 
--- src/lib.rt:73:5
 loop-less : tie.Need-loop-less Inv-loop μ-loop
 loop-less c = search needs
 
--- src/lib.rt:73:5
 loop-again : tie.Need-loop-again Inv-loop μ-loop
 loop-again c = (omega arith, below-more _ _ (c .before .before .before .loop .inv .1) (ne-eqb _ _ (c .if1 .left)))
 
--- src/lib.rt:68:1
 returns-2 : tie.Need-returns-2 Inv-loop μ-loop
 returns-2 c =
     let l = c .before in

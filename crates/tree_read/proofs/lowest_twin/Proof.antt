@@ -12,9 +12,6 @@ use Rattle.tree_check.proofs.Search.{found, missed}
 use Rattle.tree_read.proofs.Twins.{twinned}
 use Rattle.tree_read.proofs.lowest_twin.Statement.{statement}
 use Rattle.tree_read.proofs.lowest_twin.Tie as tie
-use Rattle.tree_read.proofs.lowest_twin.Reads as reads
-use Rattle.tree_read.proofs.lowest_twin.Lts as lts
-use Rattle.tree_read.proofs.has_twin.Reads as has-twin-reads
 
 abbrev Inv-loop : tie.InvT-loop
 Inv-loop m clusters v₀ v = (v ≤ m) × ((j : ℕ) → j < v → twinned clusters m j ≡ false)
@@ -22,34 +19,27 @@ Inv-loop m clusters v₀ v = (v ≤ m) × ((j : ℕ) → j < v → twinned clust
 abbrev μ-loop : tie.MeasureT-loop
 μ-loop m clusters v₀ v = m - v
 
--- src/lib.rt:105:5
 loop-holds : tie.Need-loop-holds Inv-loop μ-loop
 loop-holds c = (omega arith, below-none _)
 
--- src/lib.rt:106:12
 has-twin-requires : tie.Need-has-twin-requires Inv-loop μ-loop
 has-twin-requires c κs = search needs
 
--- src/lib.rt:107:13
 returns : tie.Need-returns Inv-loop μ-loop
 returns c =
     let l = c .before .before .before in
     let a = l .before .args in
     found (twinned (a .clusters .now) (a .m)) (a .m) (l .loop .v) (l .loop .inv .1) (omega arith) (sym (c .before .has-twin .ensures) ∙ c .if1 .taken)
 
--- src/lib.rt:109:9
 add-v : tie.Need-add-v Inv-loop μ-loop
 add-v c = search needs
 
--- src/lib.rt:105:5
 loop-less : tie.Need-loop-less Inv-loop μ-loop
 loop-less c = search needs
 
--- src/lib.rt:105:5
 loop-again : tie.Need-loop-again Inv-loop μ-loop
 loop-again c = (omega arith, below-more _ _ (c .before .before .before .loop .inv .1) (sym (c .before .has-twin .ensures) ∙ c .if1 .left))
 
--- src/lib.rt:100:1
 returns-2 : tie.Need-returns-2 Inv-loop μ-loop
 returns-2 c =
     let l = c .before in

@@ -12,9 +12,6 @@ use Rattle.tree_read.specs.Columns.{Marked}
 use Rattle.tree_read.proofs.Marking.{mark-none, mark-root, mark-kept, mark-put}
 use Rattle.tree_read.proofs.mark.Statement.{statement}
 use Rattle.tree_read.proofs.mark.Tie as tie
-use Rattle.tree_read.proofs.mark.Reads as reads
-use Rattle.tree_read.proofs.mark.Lts as lts
-use Rattle.tree_check.proofs.step_up.Reads as step-up-reads
 
 abbrev Inv-loop : tie.InvT-loop
 Inv-loop links home group marked₀ m at₀ s₀ marked at s = (s ≤ suc m) × (at ≡ walk (linked links) s home) × Marked links home group s marked₀ marked
@@ -22,52 +19,40 @@ Inv-loop links home group marked₀ m at₀ s₀ marked at s = (s ≤ suc m) × 
 abbrev μ-loop : tie.MeasureT-loop
 μ-loop links home group marked₀ m at₀ s₀ marked at s = suc m - s
 
--- src/lib.rt:40:5
 loop-holds : tie.Need-loop-holds Inv-loop μ-loop
 unfolding walk
 loop-holds c = (omega arith, refl, mark-none _ _ _ _ (c .before .pre .0 .1))
 
--- src/lib.rt:42:16
 mul-if2 : tie.Need-mul-if2 Inv-loop μ-loop
 mul-if2 c = search needs
 
--- src/lib.rt:42:16
 array-read-if2 : tie.Need-array-read-if2 Inv-loop μ-loop
 array-read-if2 c = search needs
 
--- src/lib.rt:43:30
 mul-marked : tie.Need-mul-marked Inv-loop μ-loop
 mul-marked c = search needs
 
--- src/lib.rt:43:30
 array-read-marked : tie.Need-array-read-marked Inv-loop μ-loop
 array-read-marked c = search needs
 
--- src/lib.rt:43:30
 add-marked : tie.Need-add-marked Inv-loop μ-loop
 add-marked c = search needs
 
--- src/lib.rt:43:17
 mul-marked-2 : tie.Need-mul-marked-2 Inv-loop μ-loop
 mul-marked-2 c = search needs
 
--- src/lib.rt:43:17
 array-write-marked : tie.Need-array-write-marked Inv-loop μ-loop
 array-write-marked c = search needs
 
--- src/lib.rt:46:9
 step-up-requires : tie.Need-step-up-requires Inv-loop μ-loop
 step-up-requires c κs = search needs
 
--- src/lib.rt:47:9
 add-s : tie.Need-add-s Inv-loop μ-loop
 add-s c = search needs
 
--- src/lib.rt:40:5
 loop-less : tie.Need-loop-less Inv-loop μ-loop
 loop-less c = search needs
 
--- src/lib.rt:40:5
 loop-again : tie.Need-loop-again Inv-loop μ-loop
 loop-again c =
     let l = c .before .before .before in
@@ -75,17 +60,15 @@ loop-again c =
     let a = p .args in
     let links = a .links .now in
     let at = l .loop .inv .1 in
-    let marked = l .loop .inv .2 in
-    (
+    let marked = l .loop .inv .2 in (
       omega arith,
       walk-next (linked links) (l .loop .s) (a .home) (l .loop .at) _ at (c .step-up .ensures),
       ⊎-elim (λ w. rw (w .2) (mark-put links (a .home) (a .group) (l .loop .s) (l .loop .at) (a .clusters) (l .loop .marked) at marked (w .0 .taken) (p .pre .1 _ (w .0 .taken)) (omega arith) (w .1 .taken)))
-      (⊎-elim (λ w. rw (w .2) (mark-kept links (a .home) (a .group) (l .loop .s) (l .loop .at) (a .clusters) (l .loop .marked) at marked (w .0 .taken) (p .pre .1 _ (w .0 .taken)) (w .1 .left)))
-      (λ w. rw (w .1) (mark-root links (a .home) (a .group) (l .loop .s) (l .loop .at) (a .clusters) (l .loop .marked) at marked (w .0 .left))))
-      (c .before .if1 .came),
+          (⊎-elim (λ w. rw (w .2) (mark-kept links (a .home) (a .group) (l .loop .s) (l .loop .at) (a .clusters) (l .loop .marked) at marked (w .0 .taken) (p .pre .1 _ (w .0 .taken)) (w .1 .left)))
+          (λ w. rw (w .1) (mark-root links (a .home) (a .group) (l .loop .s) (l .loop .at) (a .clusters) (l .loop .marked) at marked (w .0 .left))))
+          (c .before .if1 .came),
     )
 
--- src/lib.rt:31:1
 returns : tie.Need-returns Inv-loop μ-loop
 returns c =
     let l = c .before in

@@ -6,14 +6,10 @@ use lib.Pow.{shl-exact}
 use borrow.Author.Needs.{needs}
 use Rattle.tree_read.proofs.one_at.Statement.{statement}
 use Rattle.tree_read.proofs.one_at.Tie as tie
-use Rattle.tree_read.proofs.one_at.Reads as reads
-use Rattle.tree_read.proofs.one_at.Lts as lts
 
--- src/lib.rt:27:5
 shl-result : tie.Need-shl-result
 shl-result c = search needs
 
--- src/lib.rt:23:1
 returns : tie.Need-returns
 returns c = shl-exact {a = 1} 1 (c .args .i) 64 (omega arith) (omega arith) ∙ one-mul _
 

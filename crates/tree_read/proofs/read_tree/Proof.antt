@@ -1,33 +1,35 @@
+-- Refused before the clusters, or read.
+use mathlib.Core.Logic.{⊎-elim}
+use Rattle.tree_check.specs.Parts.{firstChecks}
+use Rattle.tree_read.proofs.Replies.{first-refused, not-refused}
+use native.Mathlib.Omega.{arith}
+use Prim.Native.Nat.{ℕ}
 use borrow.Author.Needs.{needs}
+use mathlib.Core.Path.{sym, _∙_, ap}
 use Rattle.tree_read.proofs.read_tree.Statement.{statement}
 use Rattle.tree_read.proofs.read_tree.Tie as tie
-use Rattle.tree_read.proofs.read_tree.Reads as reads
-use Rattle.tree_read.proofs.read_tree.Lts as lts
-use Rattle.tree_check.proofs.check.Reads as check-reads
-use Rattle.tree_read.proofs.read_checked.Reads as read-checked-reads
-use Rattle.tree_read.proofs.refused.Reads as refused-reads
 
--- src/lib.rt:187:9
 check-requires : tie.Need-check-requires
 check-requires c κs = search needs
 
--- src/lib.rt:188:29
 enum-known-first : tie.Need-enum-known-first
 enum-known-first c = search needs
 
--- src/lib.rt:189:9
 refused-requires : tie.Need-refused-requires
 refused-requires c κs = search needs
 
--- src/lib.rt:189:9
 returns : tie.Need-returns
-returns c = ?
+returns c =
+    let a = c .before .before .before .before .before .before .args in
+    c .refused .ensures ∙ first-refused (a .n) (a .body .now) _ _ (sym (c .before .before .before .before .check .ensures) ∙ c .before .before .first .given .1)
 
--- src/lib.rt:191:5
 read-checked-requires : tie.Need-read-checked-requires
-read-checked-requires c κs = ?
+read-checked-requires c κs =
+    let a = c .before .before .before .args in
+    not-refused (firstChecks (a .n) (a .body .now)) (λ number place e.
+    let refused = c .before .check .ensures ∙ e in
+    ⊎-elim (λ q. absurd (omega arith)) (λ q. absurd (omega arith)) (rw refused at (c .match .keys2)))
 
--- src/lib.rt:184:1
 returns-2 : tie.Need-returns-2
 returns-2 c = search needs
 

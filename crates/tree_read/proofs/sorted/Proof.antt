@@ -14,12 +14,6 @@ use Rattle.tree_read.proofs.Sorting.{sorted-count}
 use Rattle.tree_read.proofs.Selection.{lastCluster, next-within, next-last, row-pushed, rows-all, rows-so-far}
 use Rattle.tree_read.proofs.sorted.Statement.{statement}
 use Rattle.tree_read.proofs.sorted.Tie as tie
-use Rattle.tree_read.proofs.sorted.Reads as reads
-use Rattle.tree_read.proofs.sorted.Lts as lts
-use Rattle.splits_list.proofs.empty.Reads as empty-reads
-use Rattle.splits_list.proofs.push.Reads as push-reads
-use Rattle.tree_body.proofs.word_at.Reads as word-at-reads
-use Rattle.tree_read.proofs.next_edge.Reads as next-edge-reads
 
 abbrev Inv-loop : tie.InvT-loop
 Inv-loop n m clusters bytes list₀ low₀ i₀ list low i = (i ≤ m) × (list ≡ listOf n (take i (sortedOf (rowAt clusters (fromBytes bytes)) m))) × (low ≡ lastCluster (sortedOf (rowAt clusters (fromBytes bytes)) m) i)
@@ -27,20 +21,16 @@ Inv-loop n m clusters bytes list₀ low₀ i₀ list low i = (i ≤ m) × (list 
 abbrev μ-loop : tie.MeasureT-loop
 μ-loop n m clusters bytes list₀ low₀ i₀ list low i = m - i
 
--- src/lib.rt:139:9
 empty-requires : tie.Need-empty-requires Inv-loop μ-loop
 empty-requires c κs = search needs
 
--- src/lib.rt:142:5
 loop-holds : tie.Need-loop-holds Inv-loop μ-loop
 unfolding lastCluster
 loop-holds c = (omega arith, c .empty .ensures, refl)
 
--- src/lib.rt:143:13
 next-edge-requires : tie.Need-next-edge-requires Inv-loop μ-loop
 next-edge-requires c κs = search needs
 
--- src/lib.rt:144:15
 -- there is a next row
 chosen : (c : tie.After-next-edge Inv-loop μ-loop) → c .next-edge .result < c .before .before .before .before .before .args .m
 chosen c =
@@ -53,19 +43,15 @@ chosen c =
 mul-low : tie.Need-mul-low Inv-loop μ-loop
 mul-low c = omega (arith, chosen c)
 
--- src/lib.rt:144:15
 element-copy-out-low : tie.Need-element-copy-out-low Inv-loop μ-loop
 element-copy-out-low c = omega (arith, chosen c)
 
--- src/lib.rt:145:53
 mul-word-at : tie.Need-mul-word-at Inv-loop μ-loop
 mul-word-at c = omega (arith, chosen (c .before))
 
--- src/lib.rt:145:38
 word-at-requires : tie.Need-word-at-requires Inv-loop μ-loop
 word-at-requires c κs = omega (arith, chosen (c .before))
 
--- src/lib.rt:145:13
 push-requires : tie.Need-push-requires Inv-loop μ-loop
 push-requires c κs =
     let l = c .before .before .before .before in
@@ -75,15 +61,12 @@ push-requires c κs =
     let ws = fromBytes (a .bytes .now) in
     omega (arith, rows-so-far (a .n) (a .m) cs ws (p .pre .2) (l .loop .i) (l .loop .list) (l .loop .inv .0) (l .loop .inv .1))
 
--- src/lib.rt:147:9
 add-i : tie.Need-add-i Inv-loop μ-loop
 add-i c = search needs
 
--- src/lib.rt:142:5
 loop-less : tie.Need-loop-less Inv-loop μ-loop
 loop-less c = search needs
 
--- src/lib.rt:142:5
 loop-again : tie.Need-loop-again Inv-loop μ-loop
 loop-again c =
     let l = c .before .before .before .before .before in
@@ -92,14 +75,12 @@ loop-again c =
     let cs = a .clusters .now in
     let ws = fromBytes (a .bytes .now) in
     let next = c .before .before .before .next-edge in
-    let weight = c .before .word-at .ensures ∙ sym (word-at (a .bytes .now) (next .result) (omega (arith, chosen (c .before .before .before)))) in
-    (
+    let weight = c .before .word-at .ensures ∙ sym (word-at (a .bytes .now) (next .result) (omega (arith, chosen (c .before .before .before)))) in (
       omega arith,
       c .push .ensures ∙ row-pushed (a .n) (a .m) cs ws (p .pre .2) (l .loop .i) (l .loop .low) (next .result) (omega arith) (l .loop .inv .2) (next .ensures) (l .loop .list) _ (omega arith) (l .loop .inv .1) weight,
       next-last (a .n) (a .m) cs ws (p .pre .2) (l .loop .i) (l .loop .low) (next .result) (omega arith) (l .loop .inv .2) (next .ensures),
     )
 
--- src/lib.rt:135:1
 returns : tie.Need-returns Inv-loop μ-loop
 returns c =
     let l = c .before in
