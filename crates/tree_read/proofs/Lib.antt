@@ -8,3 +8,4 @@ pub mod Marking
 pub mod Selection
 pub mod Twins
 pub mod Replies
+pub mod Renumbered
