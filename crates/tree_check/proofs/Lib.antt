@@ -1,4 +1,4 @@
 pub mod Search
 pub mod Walked
-pub mod Weighed
+pub mod Tested
 pub mod Ways

@@ -9,7 +9,7 @@ use Rattle.statement.specs.Bytes.{fromBytes}
 use Rattle.tree_body.proofs.Body.{word-at}
 use Rattle.tree_check.specs.Parts.{badWeight}
 use Rattle.tree_check.proofs.Search.{found, missed}
-use Rattle.tree_check.proofs.Weighed.{zero-bad, heavy-bad, weight-good}
+use Rattle.tree_check.proofs.Tested.{zero-bad, heavy-bad, weight-good}
 use borrow.Author.Needs.{needs}
 use Rattle.tree_check.proofs.lowest_bad_weight.Statement.{statement}
 use Rattle.tree_check.proofs.lowest_bad_weight.Tie as tie

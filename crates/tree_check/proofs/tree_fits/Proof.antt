@@ -1,5 +1,5 @@
 -- One way out for each demand on the length.
-use Rattle.tree_check.proofs.Weighed.{too-short, uneven, counted}
+use Rattle.tree_check.proofs.Tested.{too-short, uneven, counted}
 use borrow.Author.Needs.{needs}
 use Rattle.tree_check.proofs.tree_fits.Statement.{statement}
 use Rattle.tree_check.proofs.tree_fits.Tie as tie
