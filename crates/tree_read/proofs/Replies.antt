@@ -76,8 +76,19 @@ first-refused n body number place e =
     refused-reply n body number place
     (given-first (firstChecks n body) (lastChecks n body) number place (refused-exactly (firstChecks n body) number place .0 e))
 
-pub first-shape : (n : ℕ) (body : List ℕ) → AllPassed (firstChecks n body) → Shape n body
+first-shape : (n : ℕ) (body : List ℕ) → AllPassed (firstChecks n body) → Shape n body
 first-shape n body passed = shape-of n body (passed .0) (passed .1 .0) (passed .1 .1 .0)
+
+-- the lengths of a body that passed so far, m being its first byte
+pub record Room (n : ℕ) (body : List ℕ) (m : ℕ) : Type 0 where
+  pub few : n ≤ 64
+  pub short : m ≤ 125
+  pub sized : length body ≡ treeLength n m
+
+pub room-of : (n : ℕ) (body : List ℕ) (m : ℕ) → AllPassed (firstChecks n body) → m ≡ getD body 0 0 → Room n body m
+room-of n body m passed is =
+    let s = first-shape n body passed in
+    record { few = s .few; short = omega (arith, s .few, s .edges); sized = s .sized ∙ ap (treeLength n) (sym is) }
 
 -- THE CLUSTERS, made from the links and homes of a body that passed so far
 pub record Read (n : ℕ) (body : List ℕ) (m : ℕ) (cs : List ℕ) : Type 0 where
@@ -91,7 +102,7 @@ pub record Read (n : ℕ) (body : List ℕ) (m : ℕ) (cs : List ℕ) : Type 0 w
 
 module _ (n : ℕ) (body : List ℕ) (m : ℕ) (cs : List ℕ) (k : Read n body m cs) where
   sized : length body ≡ treeLength n m
-  sized = first-shape n body (k .passed) .sized ∙ ap (treeLength n) (sym (k .first))
+  sized = room-of n body m (k .passed) (k .first) .sized
 
   edges : root (treeIn n body) ≡ m
   edges = root-is n body (first-shape n body (k .passed) .sized) ∙ sym (k .first)
