@@ -5,8 +5,8 @@ use mathlib.Core.Path.{_≡_, refl, sym, _∙_, ap}
 use mathlib.Core.List.{List, [], _∷_}
 use lib.ListN.{length, getD, take, drop, length-drop, List·getD-eq-default}
 use lib.Seq.{take-all, length-take-le, getD-take, getD-drop}
-use Rattle.statement.specs.Tree.{Tree, root, up}
-use Rattle.statement.specs.Bytes.{fromFour, fromBytes, treeIn, treeLength}
+use Rattle.statement.specs.Tree.{root, up}
+use Rattle.statement.specs.Bytes.{fromBytes, treeIn, treeLength}
 use Rattle.tree_body.specs.Words.{wordAt}
 
 -- within a list it does not matter what is said beyond its end

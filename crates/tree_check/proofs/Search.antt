@@ -1,7 +1,7 @@
 -- A search from 0 on, place by place, and a check by what the search found. Assumes nothing.
 use Prim.Native.Nat.{ℕ, _≤_, _<_}
 use native.Mathlib.Omega.{arith}
-use mathlib.Core.Path.{_≡_, refl, sym, _∙_, ap, subst}
+use mathlib.Core.Path.{_≡_, refl, sym, subst}
 use mathlib.Core.Bool.{Bool, true, false}
 use Rattle.statement.specs.Lowest.{lowest}
 use Rattle.statement.specs.Refusals.{Check, Passed, Fails, single}

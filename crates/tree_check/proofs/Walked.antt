@@ -1,15 +1,15 @@
 -- Walks, a step at a time, and that only the links matter to them. Assumes nothing.
-use Prim.Native.Nat.{ℕ, zero, suc, _+_, _<_}
+use Prim.Native.Nat.{ℕ, zero, suc, _+_}
 use native.Mathlib.Numerals.{add-one}
 use mathlib.Core.Path.{_≡_, refl, sym, _∙_, ap}
-use mathlib.Core.Bool.{Bool, not}
+use mathlib.Core.Bool.{not}
 use mathlib.Core.List.{List, []}
 use lib.Dec.{eqb}
-use lib.ListN.{length, getD}
+use lib.ListN.{getD}
 use Rattle.statement.specs.Cluster.{groupOf}
 use Rattle.statement.specs.Lowest.{some}
 use Rattle.statement.specs.Tree.{Tree, root, up, walk, onWalk, clusterOf}
-use Rattle.statement.specs.Refusals.{Check, walkOff}
+use Rattle.statement.specs.Refusals.{walkOff}
 use Rattle.tree_check.specs.Parts.{placed, linked}
 
 -- the last step of a walk

@@ -1,8 +1,8 @@
 -- The ways out of the checks that need no clusters: what a check found, as its refusal. Assumes nothing.
-use Prim.Native.Nat.{ℕ, _+_, _*_, _≤_, _<_}
+use Prim.Native.Nat.{ℕ, _+_, _≤_, _<_}
 use native.Mathlib.Omega.{arith}
-use mathlib.Core.Path.{_≡_, refl, sym, _∙_, ap, ap₂, subst}
-use mathlib.Core.Logic.{_⊎_, inl, inr, _≢_}
+use mathlib.Core.Path.{_≡_, refl, sym, _∙_, ap, ap₂}
+use mathlib.Core.Logic.{inl, inr, _≢_}
 use mathlib.Core.Bool.{Bool, true, false, not, _||_}
 use mathlib.Core.List.{List, [], _∷_}
 use lib.Dec.{ltb, eqb}
@@ -10,9 +10,9 @@ use lib.ListN.{length, getD, take, drop}
 use borrow.Author.Tests.{lt-ltb, le-ltb, eq-eqb, ne-eqb}
 use Rattle.statement.specs.declared.Outcome.the-variants.{Done, Refused}
 use Rattle.statement.specs.Lowest.{lowest, some}
-use Rattle.statement.specs.Tree.{Tree, root, onWalk}
+use Rattle.statement.specs.Tree.{root}
 use Rattle.statement.specs.Bytes.{fromBytes, treeIn, treeLength}
-use Rattle.statement.specs.Refusals.{Check, outcomeOf, Passed, Fails, Given, taxaOff, lengthOff, treeFits, treeOff, weightOff, walkOff, homeOff}
+use Rattle.statement.specs.Refusals.{Check, outcomeOf, Passed, Given, taxaOff, lengthOff, treeFits, treeOff, weightOff, walkOff, homeOff}
 use Rattle.statement.proofs.Refused.{given-refused, passed-done}
 use Rattle.statement.proofs.Accepted.{single-passed, taxa-passed}
 use Rattle.tree_body.proofs.Body.{root-is, home-at}

@@ -1,5 +1,5 @@
 -- What the checks before the clusters look at: a tree's parts, each by itself.
-use Prim.Native.Nat.{ℕ, _+_}
+use Prim.Native.Nat.{ℕ}
 use mathlib.Core.Bool.{Bool, _||_}
 use mathlib.Core.List.{List, [], _∷_}
 use lib.Dec.{ltb, eqb}

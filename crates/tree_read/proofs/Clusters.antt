@@ -1,14 +1,13 @@
 -- The clusters of an accepted tree are splits, each two of them different and without conflict. Document 01, "The tree". Assumes nothing.
-use Prim.Native.Nat.{ℕ, zero, suc, _+_, _-_, _^_, _≤_, _<_}
+use Prim.Native.Nat.{ℕ, _+_, _-_, _≤_, _<_}
 use native.Mathlib.Omega.{arith}
 use native.Mathlib.Nat.{pos-of-ne-zero}
 use native.Mathlib.Decide.{decLt}
 use mathlib.Core.Path.{_≡_, refl, sym, _∙_, ap}
 use mathlib.Core.Logic.{_⊎_, inl, inr, _↔_, Iff·trans}
 use mathlib.Core.Bool.{Bool, true, false, cond, false≢true}
-use lib.ListN.{getD}
-use Rattle.statement.specs.Cluster.{bit, In, Out, Split, Conflict}
-use Rattle.statement.specs.Tree.{Tree, root, up, walk, onWalk, clusterOf}
+use Rattle.statement.specs.Cluster.{In, Out, Split, Conflict}
+use Rattle.statement.specs.Tree.{Tree, root, walk, onWalk, clusterOf}
 use Rattle.statement.proofs.Bits.{zero-or-one}
 use Rattle.statement.proofs.Groups.{group-below, group-bit}
 use Rattle.tree_read.specs.Accepted.{Leads, AcceptedTree, homeIn}

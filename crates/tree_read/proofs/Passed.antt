@@ -3,18 +3,17 @@ use Prim.Native.Nat.{ℕ, _+_, _*_, _-_, _≤_, _<_}
 use native.Mathlib.Omega.{arith}
 use native.Mathlib.Nat.{pos-of-ne-zero}
 use native.Mathlib.Decide.{ℕ-discrete}
-use mathlib.Core.Path.{_≡_, refl, sym, _∙_, ap}
-use mathlib.Core.Logic.{_↔_}
-use mathlib.Core.Bool.{Bool, true, false, not, _&&_, _||_}
+use mathlib.Core.Path.{_≡_, ap}
+use mathlib.Core.Bool.{true, not, _&&_}
 use mathlib.Core.List.{List}
 use lib.Dec.{ltb, eqb}
 use lib.ListN.{length, getD}
-use borrow.Author.Tests.{ne-eqb, eqb-false, ltb-false}
+use borrow.Author.Tests.{ne-eqb, eqb-false}
 use Rattle.statement.specs.Lowest.{some}
 use Rattle.statement.specs.Matrix.{weightLimit}
-use Rattle.statement.specs.Tree.{Tree, root, up, onWalk, clusterOf}
+use Rattle.statement.specs.Tree.{Tree, root, up, clusterOf}
 use Rattle.statement.specs.Bytes.{treeIn, treeLength}
-use Rattle.statement.specs.Refusals.{AllPassed, Passed, taxaOff, lengthOff, treeFits, treeOff, weightOff, walkOff, homeOff, edgeOff, twinOff, treeChecks}
+use Rattle.statement.specs.Refusals.{AllPassed, Passed, taxaOff, lengthOff, treeFits, treeOff, weightOff, twinOff, treeChecks}
 use Rattle.statement.proofs.Lowest.{some-of}
 use Rattle.statement.proofs.Tests.{same-is, not-less-is, neither-is, not-is, fails-is, none-is, unless-is}
 use Rattle.statement.proofs.Accepted.{taxa-passed}

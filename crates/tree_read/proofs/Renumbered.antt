@@ -9,10 +9,10 @@ use mathlib.Core.Bool.{Bool, true, false, not, _&&_}
 use mathlib.Core.List.{List, map}
 use lib.Dec.{eqb}
 use lib.ListN.{length, getD, length-map, List·getD-map}
-use borrow.Author.Tests.{eqb-true, eq-eqb, ne-eqb, not-true, eqb-false}
+use borrow.Author.Tests.{eqb-true, eq-eqb, ne-eqb, not-true}
 use Rattle.statement.specs.Cluster.{bit, In, Out}
-use Rattle.statement.specs.Lowest.{lowest, some}
-use Rattle.statement.specs.Rows.{Row, row, clusters, weights}
+use Rattle.statement.specs.Lowest.{lowest}
+use Rattle.statement.specs.Rows.{Row, row, weights}
 use Rattle.statement.specs.Tree.{Tree, numbers, root, clusterAt, strictlyIn, linkOf, homeOf, treeOf, up, walk, clusterOf, rowsOfTree}
 use Rattle.statement.specs.Bytes.{treeIn}
 use Rattle.statement.specs.Refusals.{AllPassed, treeChecks}
@@ -21,8 +21,8 @@ use Rattle.statement.proofs.Groups.{part-le}
 use Rattle.statement.proofs.Tests.{same-is, both-is, none-is, unless-is, fails-is}
 use Rattle.statement.proofs.Walks.{map-at, numbers-length}
 use Rattle.tree_check.proofs.Search.{found, missed}
-use Rattle.tree_read.specs.Accepted.{Leads, AcceptedTree, homeIn, weightAt}
-use Rattle.tree_read.specs.Selected.{Edges, sortedOf}
+use Rattle.tree_read.specs.Accepted.{Leads, AcceptedTree, homeIn}
+use Rattle.tree_read.specs.Selected.{sortedOf}
 use Rattle.tree_read.specs.SameTree.{SameTree, rowPlace}
 use Rattle.tree_read.proofs.Passed.{tree-accepted}
 use Rattle.tree_read.proofs.Reaches.{walk-root, walk-add, stays}

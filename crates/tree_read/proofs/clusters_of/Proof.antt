@@ -1,13 +1,12 @@
 -- The clusters of the first i taxa.
-use Prim.Native.Nat.{ℕ, suc, _+_, _-_, _≤_, _<_}
+use Prim.Native.Nat.{ℕ, _-_, _≤_, _<_}
 use native.Mathlib.Omega.{arith}
 use borrow.Author.Needs.{needs}
-use mathlib.Core.Path.{_≡_, refl, sym, _∙_, ap, ap₂}
-use mathlib.Core.Bool.{cond}
+use mathlib.Core.Path.{_≡_, refl, sym, _∙_, ap}
 use lib.ListN.{length, getD, getD-replicate}
 use lib.Pow.{pow-mono}
-use Rattle.statement.specs.Tree.{onWalk, clusterOf}
-use Rattle.tree_check.specs.Parts.{linked, placed}
+use Rattle.statement.specs.Tree.{clusterOf}
+use Rattle.tree_check.specs.Parts.{placed}
 use Rattle.tree_read.proofs.Marking.{cluster-none, cluster-below, cluster-more}
 use Rattle.tree_read.proofs.clusters_of.Statement.{statement}
 use Rattle.tree_read.proofs.clusters_of.Tie as tie

@@ -3,12 +3,11 @@ use Prim.Native.Nat.{ℕ, _-_, _≤_, _<_}
 use native.Mathlib.Omega.{arith}
 use borrow.Author.Needs.{needs}
 use borrow.Author.Count.{below-none, below-more}
-use mathlib.Core.Path.{_≡_, sym, _∙_}
-use mathlib.Core.Bool.{true, false, not, _&&_}
+use mathlib.Core.Path.{_≡_, sym}
+use mathlib.Core.Bool.{false, not, _&&_}
 use lib.Dec.{eqb}
 use lib.ListN.{getD}
 use mathlib.Core.Logic.{⊎-elim}
-use borrow.Author.Tests.{eq-eqb, ne-eqb}
 use Rattle.statement.proofs.Lowest.{some-at, none-at}
 use Rattle.tree_read.proofs.Twins.{twin, itself, other}
 use Rattle.tree_read.proofs.has_twin.Statement.{statement}

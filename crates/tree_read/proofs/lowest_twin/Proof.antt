@@ -4,10 +4,7 @@ use native.Mathlib.Omega.{arith}
 use borrow.Author.Needs.{needs}
 use borrow.Author.Count.{below-none, below-more}
 use mathlib.Core.Path.{_≡_, sym, _∙_}
-use mathlib.Core.Bool.{true, false, not, _&&_}
-use lib.Dec.{eqb}
-use lib.ListN.{getD}
-use Rattle.statement.specs.Lowest.{some}
+use mathlib.Core.Bool.{false}
 use Rattle.tree_check.proofs.Search.{found, missed}
 use Rattle.tree_read.proofs.Twins.{twinned}
 use Rattle.tree_read.proofs.lowest_twin.Statement.{statement}

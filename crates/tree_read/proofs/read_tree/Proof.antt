@@ -3,9 +3,8 @@ use mathlib.Core.Logic.{⊎-elim}
 use Rattle.tree_check.specs.Parts.{firstChecks}
 use Rattle.tree_read.proofs.Replies.{first-refused, not-refused}
 use native.Mathlib.Omega.{arith}
-use Prim.Native.Nat.{ℕ}
 use borrow.Author.Needs.{needs}
-use mathlib.Core.Path.{sym, _∙_, ap}
+use mathlib.Core.Path.{sym, _∙_}
 use Rattle.tree_read.proofs.read_tree.Statement.{statement}
 use Rattle.tree_read.proofs.read_tree.Tie as tie
 

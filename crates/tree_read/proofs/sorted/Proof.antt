@@ -1,16 +1,13 @@
 -- The first i rows are in the list, and low is the cluster of the last of them.
-use Prim.Native.Nat.{ℕ, _*_, _-_, _≤_, _<_}
+use Prim.Native.Nat.{_-_, _≤_, _<_}
 use native.Mathlib.Omega.{arith}
 use borrow.Author.Needs.{needs}
 use mathlib.Core.Path.{_≡_, refl, sym, _∙_, ap}
-use lib.ListN.{length, getD, take}
-use lib.Seq.{length-take-le}
-use Rattle.statement.specs.declared.Splits.{Splits}
+use lib.ListN.{take}
 use Rattle.statement.specs.Rows.{listOf}
 use Rattle.statement.specs.Bytes.{fromBytes}
 use Rattle.tree_body.proofs.Body.{word-at}
 use Rattle.tree_read.specs.Selected.{rowAt, sortedOf}
-use Rattle.tree_read.proofs.Sorting.{sorted-count}
 use Rattle.tree_read.proofs.Selection.{lastCluster, next-within, next-last, row-pushed, rows-all, rows-so-far}
 use Rattle.tree_read.proofs.sorted.Statement.{statement}
 use Rattle.tree_read.proofs.sorted.Tie as tie
