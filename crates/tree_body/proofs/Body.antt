@@ -40,7 +40,8 @@ word-at (a ∷ b ∷ []) v l = absurd (omega arith)
 word-at (a ∷ b ∷ c ∷ []) v l = absurd (omega arith)
 word-at (a ∷ b ∷ c ∷ d ∷ rest) zero l = refl
 word-at (a ∷ b ∷ c ∷ d ∷ rest) (suc v) l =
-    word-at rest v (omega arith) ∙ sym (same-word (a ∷ b ∷ c ∷ d ∷ rest) rest (4 * suc v) (4 * v) (λ i. past-word a b c d rest (4 * v + i) (4 * suc v + i) (omega arith)))
+    word-at rest v (omega arith)
+    ∙ sym (same-word (a ∷ b ∷ c ∷ d ∷ rest) rest (4 * suc v) (4 * v) (λ i. past-word a b c d rest (4 * v + i) (4 * suc v + i) (omega arith)))
 
 -- a body whose m byte agrees with its length
 module _ (n : ℕ) (body : List ℕ) (sized : length body ≡ treeLength n (getD body 0 0)) where

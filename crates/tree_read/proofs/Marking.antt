@@ -38,7 +38,8 @@ mark-none links home group before l =
     record { long = l; each = λ v h. rw (none-at (λ j. eqb (walk (linked links) j home) v) 0 (λ i k. absurd (omega arith))) (omega arith) }
 
 -- the walk is at x after s steps
-module _ (links : List ℕ) (home group s x : ℕ) (before after : List ℕ) (is : x ≡ walk (linked links) s home) (marked : Marked links home group s before after) where
+module _ {links : List ℕ} {home group s x : ℕ} {before after : List ℕ} (is : x ≡ walk (linked links) s home)
+    (marked : Marked links home group s before after) where
   elsewhere : (v : ℕ) → v ≢ x → passes links home v (s + 1) ≡ passes links home v s
   elsewhere v n = some-miss (λ j. eqb (walk (linked links) j home) v) s (ne-eqb _ _ (λ e. n (sym e ∙ sym is)))
 
@@ -62,8 +63,8 @@ module _ (links : List ℕ) (home group s x : ℕ) (before after : List ℕ) (is
     unmarked false e h = omega arith
 
     -- so where x has its group and every other edge is as it was
-    settled : (now : List ℕ) → length now ≡ 125 → ((v : ℕ) → v ≢ x → getD now v 0 ≡ getD after v 0) → getD now x 0 ≡ getD before x 0 + group
-        → Marked links home group (s + 1) before now
+    settled : (now : List ℕ) → length now ≡ 125 → ((v : ℕ) → v ≢ x → getD now v 0 ≡ getD after v 0)
+        → getD now x 0 ≡ getD before x 0 + group → Marked links home group (s + 1) before now
     settled now long others at = record { long = long; each = λ v l. go v l (ℕ-discrete v x) }
       where
         go : (v : ℕ) → v < length links → Dec (v ≡ x) → getD now v 0 ≡ getD before v 0 + cond (passes links home v (s + 1)) group 0
@@ -87,8 +88,8 @@ pub cluster-none : (t : Tree) (v : ℕ) → clusterOf t v 0 ≡ 0
 unfolding clusterOf groupOf
 cluster-none t v = refl
 
-pub cluster-more : (links homes : List ℕ) (v i c d home group : ℕ) → c ≡ clusterOf (placed links homes) v i → home ≡ getD homes i 0 → group ≡ 2 ^ i
-    → d ≡ c + cond (onWalk (linked links) home v) group 0 → d ≡ clusterOf (placed links homes) v (i + 1)
+pub cluster-more : (links homes : List ℕ) (v i c d home group : ℕ) → c ≡ clusterOf (placed links homes) v i → home ≡ getD homes i 0
+    → group ≡ 2 ^ i → d ≡ c + cond (onWalk (linked links) home v) group 0 → d ≡ clusterOf (placed links homes) v (i + 1)
 unfolding clusterOf groupOf
 cluster-more links homes v i c d home group is at one q =
     rw (add-one i, same-on-walk (placed links homes) [] (getD homes i 0) v, ← at, ← one, ← is) q

@@ -26,7 +26,8 @@ shape-passed : (n : ℕ) (body : List ℕ) → Passed (treeOff n body)
     → (length body ≡ treeLength n (getD body 0 0)) × ((i : ℕ) → i < getD body 0 0 + n → getD body (1 + i) 0 ≤ getD body 0 0)
 shape-passed n body p =
     let m = getD body 0 0 in
-    neither-is (not-is (same-is (length body) (treeLength n m))) (none-is (λ i. ltb m (getD body (1 + i) 0)) (m + n) (λ i. not-less-is m (getD body (1 + i) 0)))
+    neither-is (not-is (same-is (length body) (treeLength n m)))
+    (none-is (λ i. ltb m (getD body (1 + i) 0)) (m + n) (λ i. not-less-is m (getD body (1 + i) 0)))
     .0 (p 0 (omega arith))
 
 weight-passed : (t : Tree) → Passed (weightOff t) → (v : ℕ) → v < root t → (1 ≤ weightAt t v) × (weightAt t v ≤ weightLimit)
@@ -71,7 +72,8 @@ tree-accepted n body (p1, (p2, (p9, (p14, (p10, (p11, (p12, (p13, u)))))))) =
       few = shape .few;
       edges = omega (arith, edges, shape .edges);
       linked = linked;
-      housed = λ i l. omega (arith, edges, home-at n body (shape .sized) i l, shape .low (getD body 0 0 + i) (omega arith), ap (λ (k : ℕ). getD body k 0) (places i));
+      housed = λ i l.
+          omega (arith, edges, home-at n body (shape .sized) i l, shape .low (getD body 0 0 + i) (omega arith), ap (λ (k : ℕ). getD body k 0) (places i));
       weighed = weight-passed (treeIn n body) p14;
       rooted = λ v l. not-is (reaches-is (treeIn n body) linked v (omega arith)) .0 (p10 v l);
       first = not-is (same-is (homeIn (treeIn n body) 0) (root (treeIn n body))) .0 (p11 0 (omega arith));

@@ -35,7 +35,9 @@ pub Strictly : ℕ → ℕ → ℕ → Type 0
 Strictly n a b = ((i : ℕ) → i < n → In a i → In b i) × (a ≢ b)
 
 inside-is : (a b i : ℕ) → ((eqb (bit a i) 1 && eqb (bit b i) 0) ≡ false) ↔ (In a i → In b i)
-inside-is a b i = Iff·trans (unless-is (eqb (bit a i) 1) (fails-is (same-is (bit b i) 0))) ((λ f h. within (zero-or-one b i) (f (eq-eqb _ _ h))), (λ f e o. clash (f (eqb-true _ _ e)) o))
+inside-is a b i =
+    Iff·trans (unless-is (eqb (bit a i) 1) (fails-is (same-is (bit b i) 0)))
+    ((λ f h. within (zero-or-one b i) (f (eq-eqb _ _ h))), (λ f e o. clash (f (eqb-true _ _ e)) o))
   where
     within : Out b i ⊎ In b i → (bit b i ≡ 0 → ⊥) → In b i
     within (inl o) f = absurd (f o)
@@ -80,7 +82,8 @@ module _ (n : ℕ) (t : Tree) (a : AcceptedTree n t) where
   -- THE NUMBER of a vertex is the row that has its cluster
   row-placed : (v p : ℕ) → p < root t → getD rows p (row 0 0) ≡ edge n t v → p ≡ place v
   row-placed v p l e =
-      found (λ q. eqb (clusterAt rows q) (clusterOf t v n)) (length rows) p (λ j h. ne-eqb (clusterAt rows j) (clusterOf t v n) (λ q. omega (arith, is, ascending j p h l)))
+      found (λ q. eqb (clusterAt rows q) (clusterOf t v n)) (length rows) p
+      (λ j h. ne-eqb (clusterAt rows j) (clusterOf t v n) (λ q. omega (arith, is, ascending j p h l)))
       (omega (arith, count)) (eq-eqb _ _ is)
     where
       is : clusterAt rows p ≡ clusterOf t v n
@@ -117,7 +120,8 @@ module _ (n : ℕ) (t : Tree) (a : AcceptedTree n t) where
           omega (arith, with-first, cluster-split n t a u h .free, ap (λ (c : ℕ). bit c 0) (sym q ∙ e))
 
   -- the lowest row that passes a test, where the test says that x leads to the row's vertex, is x's own
-  lowest-above : (x : ℕ) (test : ℕ → Bool) → x ≤ root t → ((p u : ℕ) → u < root t → clusterAt rows p ≡ clusterOf t u n → (test p ≡ true) ↔ Leads t x u)
+  lowest-above : (x : ℕ) (test : ℕ → Bool) → x ≤ root t
+      → ((p u : ℕ) → u < root t → clusterAt rows p ≡ clusterOf t u n → (test p ≡ true) ↔ Leads t x u)
       → lowest test (length rows) ≡ place x
   lowest-above x test l is = go (decLt x (root t))
     where

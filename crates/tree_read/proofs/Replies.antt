@@ -110,7 +110,8 @@ module _ (n : ℕ) (body : List ℕ) (m : ℕ) (cs : List ℕ) (k : Read n body 
   tree-parts : placed (k .links) (k .homes) ≡ placed (treeIn n body .links) (treeIn n body .homes)
   unfolding treeIn
   tree-parts =
-      ap₂ placed (k .links-part ∙ ap (λ (j : ℕ). take j (drop 1 body)) (k .first)) (k .homes-part ∙ ap (λ (j : ℕ). take n (drop (1 + j) body)) (k .first))
+      ap₂ placed (k .links-part ∙ ap (λ (j : ℕ). take j (drop 1 body)) (k .first))
+      (k .homes-part ∙ ap (λ (j : ℕ). take n (drop (1 + j) body)) (k .first))
 
   links-long : length (k .links) ≡ m
   links-long = ap length (k .links-part) ∙ length-take-le m (drop 1 body) (omega (arith, length-drop 1 body, sized))
@@ -131,7 +132,8 @@ module _ (n : ℕ) (body : List ℕ) (m : ℕ) (cs : List ℕ) (k : Read n body 
   module _ (r : ℕ) (at : r ≡ lowest (λ v. eqb (getD cs v 0) 0) m) where
     bare-at : r ≡ lowest (edgeOff n (treeIn n body) .bad) (root (treeIn n body))
     bare-at =
-        at ∙ lowest-same (λ v. eqb (getD cs v 0) 0) (edgeOff n (treeIn n body) .bad) 0 m (λ v a l. ap (λ (c : ℕ). eqb c 0) (clusters-are v (omega arith)))
+        at
+        ∙ lowest-same (λ v. eqb (getD cs v 0) 0) (edgeOff n (treeIn n body) .bad) 0 m (λ v a l. ap (λ (c : ℕ). eqb c 0) (clusters-are v (omega arith)))
         ∙ ap (lowest (edgeOff n (treeIn n body) .bad)) (sym edges)
 
     pub bare-refused : r < m → refusedReply 12 r ≡ readTree n body

@@ -29,7 +29,8 @@ module _ (cs : List ℕ) (m low : ℕ) where
 
     pub next-kept : best ≢ m → getD cs best 0 ≤ getD cs v 0 → Next cs m low (v + 1) best
     next-kept n l =
-        record { within = h .within; above = h .above; least = below-more _ v (h .least) (λ a. (⊎-elim (λ e. absurd (n e)) (λ b. b) (eq-or-lt-of-le (h .within)), l)) }
+        let some : best < m = ⊎-elim (λ e. absurd (n e)) (λ b. b) (eq-or-lt-of-le (h .within)) in
+        record { within = h .within; above = h .above; least = below-more _ v (h .least) (λ a. (some, l)) }
 
     pub next-taken : v < m → low < getD cs v 0 → (best < m → getD cs v 0 ≤ getD cs best 0) → Next cs m low (v + 1) v
     next-taken lv a l =
@@ -45,61 +46,64 @@ lastCluster rows zero = 0
 lastCluster rows (suc i) = clusterAt rows i
 
 module _ (n m : ℕ) (cs ws : List ℕ) (e : Edges n m (λ v. getD cs v 0)) where
-  last-below : (i : ℕ) → i < m → lastCluster (sortedOf (rowAt cs ws) m) i < clusterAt (sortedOf (rowAt cs ws) m) i
+  abbrev rows : List Row
+  rows = sortedOf (rowAt cs ws) m
+
+  last-below : (i : ℕ) → i < m → lastCluster rows i < clusterAt rows i
   unfolding lastCluster
   last-below zero l = positive (rowAt cs ws) m n e 0 l
   last-below (suc i) l = ascends (rowAt cs ws) m n e i (suc i) (omega arith) l
 
-  last-above : (i p : ℕ) → i < m → p < i → clusterAt (sortedOf (rowAt cs ws) m) p ≤ lastCluster (sortedOf (rowAt cs ws) m) i
+  last-above : (i p : ℕ) → i < m → p < i → clusterAt rows p ≤ lastCluster rows i
   unfolding lastCluster
   last-above zero p l h = absurd (omega arith)
   last-above (suc i) p l h =
-      ⊎-elim (λ q. omega (arith, ap (clusterAt (sortedOf (rowAt cs ws) m)) q)) (λ k. omega (arith, ascends (rowAt cs ws) m n e p i k (omega arith)))
+      ⊎-elim (λ q. omega (arith, ap (clusterAt rows) q)) (λ k. omega (arith, ascends (rowAt cs ws) m n e p i k (omega arith)))
       (eq-or-lt-of-le (le-of-suc-le-suc h))
 
   -- row i is that of the edge v, the least above the rows before
-  module _ (i low v : ℕ) (more : i < m) (last : low ≡ lastCluster (sortedOf (rowAt cs ws) m) i) (next : Next cs m low m v) where
-    next-found : (v < m) × (getD cs v 0 ≤ clusterAt (sortedOf (rowAt cs ws) m) i)
+  module _ (i low v : ℕ) (more : i < m) (last : low ≡ lastCluster rows i) (next : Next cs m low m v) where
+    next-found : (v < m) × (getD cs v 0 ≤ clusterAt rows i)
     next-found =
         let (u, lu, q) = edge-at (rowAt cs ws) m i more in
-        let is : clusterAt (sortedOf (rowAt cs ws) m) i ≡ getD cs u 0 = cluster-at (rowAt cs ws) m i ∙ ap (λ (r : Row). r .cluster) q in
+        let is : clusterAt rows i ≡ getD cs u 0 = cluster-at (rowAt cs ws) m i ∙ ap (λ (r : Row). r .cluster) q in
         let (lv, le) = next .least u lu (omega (arith, last-below i more)) in
         (lv, omega arith)
 
-    pub next-row : getD (sortedOf (rowAt cs ws) m) i (row 0 0) ≡ rowAt cs ws v
+    pub next-row : getD rows i (row 0 0) ≡ rowAt cs ws v
     next-row =
         let (p, lp, q) = row-of (rowAt cs ws) m v (next-found .0) in
         go p lp q (cluster-at (rowAt cs ws) m p ∙ ap (λ (r : Row). r .cluster) q) (decLt p i) (decLt i p)
       where
-        go : (p : ℕ) → p < m → getD (sortedOf (rowAt cs ws) m) p (row 0 0) ≡ rowAt cs ws v → clusterAt (sortedOf (rowAt cs ws) m) p ≡ getD cs v 0
-            → Dec (p < i) → Dec (i < p) → getD (sortedOf (rowAt cs ws) m) i (row 0 0) ≡ rowAt cs ws v
+        go : (p : ℕ) → p < m → getD rows p (row 0 0) ≡ rowAt cs ws v → clusterAt rows p ≡ getD cs v 0
+            → Dec (p < i) → Dec (i < p) → getD rows i (row 0 0) ≡ rowAt cs ws v
         go p lp q c (yes l) d = absurd (omega (arith, last-above i p more l, next .above (next-found .0)))
         go p lp q c (no l) (yes h) = absurd (omega (arith, ascends (rowAt cs ws) m n e i p h lp, next-found .1))
-        go p lp q c (no l) (no h) = let same : i ≡ p = omega arith in ap (λ (k : ℕ). getD (sortedOf (rowAt cs ws) m) k (row 0 0)) same ∙ q
+        go p lp q c (no l) (no h) = let same : i ≡ p = omega arith in ap (λ (k : ℕ). getD rows k (row 0 0)) same ∙ q
 
     pub next-within : v < m
     next-within = next-found .0
 
-    pub next-last : getD cs v 0 ≡ lastCluster (sortedOf (rowAt cs ws) m) (i + 1)
+    pub next-last : getD cs v 0 ≡ lastCluster rows (i + 1)
     unfolding lastCluster
     next-last = rw (add-one i) (sym (cluster-at (rowAt cs ws) m i ∙ ap (λ (r : Row). r .cluster) next-row))
 
     -- so the list with that row pushed has one row more
-    pub row-pushed : (list : Splits) (w : ℕ) → m ≤ 125 → list ≡ listOf n (take i (sortedOf (rowAt cs ws) m)) → w ≡ getD ws v 0
-        → pushed list (getD cs v 0) w ≡ listOf n (take (i + 1) (sortedOf (rowAt cs ws) m))
+    pub row-pushed : (list : Splits) (w : ℕ) → m ≤ 125 → list ≡ listOf n (take i rows) → w ≡ getD ws v 0
+        → pushed list (getD cs v 0) w ≡ listOf n (take (i + 1) rows)
     row-pushed list w room is weight =
         ap (λ (s : Splits). pushed s (getD cs v 0) w) is
-        ∙ pushed-listOf n (take i (sortedOf (rowAt cs ws) m)) (getD cs v 0) w (omega (arith, length-take-le i (sortedOf (rowAt cs ws) m) (omega (arith, count))))
-        ∙ ap (λ (r : Row). listOf n (take i (sortedOf (rowAt cs ws) m) ++ (r ∷ []))) (ap (λ (x : ℕ). row (getD cs v 0) x) weight ∙ sym next-row)
-        ∙ ap (listOf n) (sym (take-suc (sortedOf (rowAt cs ws) m) i (row 0 0) (omega (arith, count))) ∙ ap (λ (k : ℕ). take k (sortedOf (rowAt cs ws) m)) (sym (add-one i)))
+        ∙ pushed-listOf n (take i rows) (getD cs v 0) w (omega (arith, length-take-le i rows (omega (arith, count))))
+        ∙ ap (λ (r : Row). listOf n (take i rows ++ (r ∷ []))) (ap (λ (x : ℕ). row (getD cs v 0) x) weight ∙ sym next-row)
+        ∙ ap (listOf n) (sym (take-suc rows i (row 0 0) (omega (arith, count))) ∙ ap (λ (k : ℕ). take k rows) (sym (add-one i)))
       where
-        count : length (sortedOf (rowAt cs ws) m) ≡ m
+        count : length rows ≡ m
         count = sorted-count (rowAt cs ws) m
 
-  pub rows-all : (i : ℕ) → m ≤ i → take i (sortedOf (rowAt cs ws) m) ≡ sortedOf (rowAt cs ws) m
-  rows-all i h = take-all i (sortedOf (rowAt cs ws) m) (omega (arith, sorted-count (rowAt cs ws) m))
+  pub rows-all : (i : ℕ) → m ≤ i → take i rows ≡ rows
+  rows-all i h = take-all i rows (omega (arith, sorted-count (rowAt cs ws) m))
 
-  pub rows-so-far : (i : ℕ) (list : Splits) → i ≤ m → list ≡ listOf n (take i (sortedOf (rowAt cs ws) m)) → list .rows ≡ i
+  pub rows-so-far : (i : ℕ) (list : Splits) → i ≤ m → list ≡ listOf n (take i rows) → list .rows ≡ i
   unfolding listOf
   rows-so-far i list l is =
-      ap (λ (s : Splits). s .rows) is ∙ length-take-le i (sortedOf (rowAt cs ws) m) (omega (arith, sorted-count (rowAt cs ws) m))
+      ap (λ (s : Splits). s .rows) is ∙ length-take-le i rows (omega (arith, sorted-count (rowAt cs ws) m))

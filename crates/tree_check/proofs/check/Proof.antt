@@ -29,7 +29,8 @@ tree-fits-requires c κs = search needs
 returns-3 : tie.Need-returns-3
 returns-3 c =
     let a = c .before .before .before .before .before .args in
-    wrong-length (a .n) (a .body .now) (c .before .before .before .if1 .left, c .before .before .if2 .left) (sym (not-true _ (c .if3 .taken)) ∙ c .before .tree-fits .ensures)
+    wrong-length (a .n) (a .body .now) (c .before .before .before .if1 .left, c .before .before .if2 .left)
+    (sym (not-true _ (c .if3 .taken)) ∙ c .before .tree-fits .ensures)
 
 shared-slice-read-vertex : tie.Need-shared-slice-read-vertex
 shared-slice-read-vertex c = omega (arith, fits-long _ _ (sym (not-false _ (c .before .if3 .left)) ∙ c .before .before .tree-fits .ensures))

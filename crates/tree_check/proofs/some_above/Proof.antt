@@ -34,7 +34,8 @@ returns : tie.Need-returns Inv-loop μ-loop
 returns c =
     let l = c .before .before .before .before in
     let a = l .before .before .args in
-    sym (some-at (λ i. ltb (a .m) (getD (a .body .now) (1 + i) 0)) (a .count) (l .loop .i) (omega arith) (lt-ltb _ _ (rw (c .before .vertex .ensures) at (c .if1 .taken))))
+    sym (some-at (λ i. ltb (a .m) (getD (a .body .now) (1 + i) 0)) (a .count) (l .loop .i) (omega arith)
+    (lt-ltb _ _ (rw (c .before .vertex .ensures) at (c .if1 .taken))))
 
 add-i : tie.Need-add-i Inv-loop μ-loop
 add-i c = search needs

@@ -12,13 +12,16 @@ use Rattle.tree_read.proofs.clusters_of.Statement.{statement}
 use Rattle.tree_read.proofs.clusters_of.Tie as tie
 
 abbrev Inv-loop : tie.InvT-loop
-Inv-loop links homes clusters₀ i₀ clusters i = (i ≤ length homes) × (length clusters ≡ 125) × ((v : ℕ) → v < length links → getD clusters v 0 ≡ clusterOf (placed links homes) v i)
+Inv-loop links homes clusters₀ i₀ clusters i =
+    (i ≤ length homes) × (length clusters ≡ 125) × ((v : ℕ) → v < length links → getD clusters v 0 ≡ clusterOf (placed links homes) v i)
 
 abbrev μ-loop : tie.MeasureT-loop
 μ-loop links homes clusters₀ i₀ clusters i = length homes - i
 
 loop-holds : tie.Need-loop-holds Inv-loop μ-loop
-loop-holds c = (omega arith, refl, λ v h. getD-replicate 125 v 0 0 (omega arith) ∙ sym (cluster-none (placed (c .before .before .args .links .now) (c .before .before .args .homes .now)) v))
+loop-holds c =
+    let a = c .before .before .args in
+    (omega arith, refl, λ v h. getD-replicate 125 v 0 0 (omega arith) ∙ sym (cluster-none (placed (a .links .now) (a .homes .now)) v))
 
 shared-slice-read-vertex : tie.Need-shared-slice-read-vertex Inv-loop μ-loop
 shared-slice-read-vertex c = search needs
@@ -52,7 +55,9 @@ loop-again c =
     let marked = c .mark .ensures in (
       omega arith,
       marked .long,
-      λ v h. cluster-more (a .links .now) (a .homes .now) v (l .loop .i) _ _ _ _ (l .loop .inv .2 v h) (c .before .before .vertex .ensures) (c .before .one-at .ensures) (marked .each v h),
+      λ v h.
+          cluster-more (a .links .now) (a .homes .now) v (l .loop .i) _ _ _ _ (l .loop .inv .2 v h) (c .before .before .vertex .ensures)
+          (c .before .one-at .ensures) (marked .each v h),
     )
 
 returns : tie.Need-returns Inv-loop μ-loop

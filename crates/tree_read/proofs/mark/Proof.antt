@@ -14,7 +14,8 @@ use Rattle.tree_read.proofs.mark.Statement.{statement}
 use Rattle.tree_read.proofs.mark.Tie as tie
 
 abbrev Inv-loop : tie.InvT-loop
-Inv-loop links home group marked₀ m at₀ s₀ marked at s = (s ≤ suc m) × (at ≡ walk (linked links) s home) × Marked links home group s marked₀ marked
+Inv-loop links home group marked₀ m at₀ s₀ marked at s =
+    (s ≤ suc m) × (at ≡ walk (linked links) s home) × Marked links home group s marked₀ marked
 
 abbrev μ-loop : tie.MeasureT-loop
 μ-loop links home group marked₀ m at₀ s₀ marked at s = suc m - s
@@ -63,9 +64,9 @@ loop-again c =
     let marked = l .loop .inv .2 in (
       omega arith,
       walk-next (linked links) (l .loop .s) (a .home) (l .loop .at) _ at (c .step-up .ensures),
-      ⊎-elim (λ w. rw (w .2) (mark-put links (a .home) (a .group) (l .loop .s) (l .loop .at) (a .clusters) (l .loop .marked) at marked (w .0 .taken) (p .pre .1 _ (w .0 .taken)) (omega arith) (w .1 .taken)))
-          (⊎-elim (λ w. rw (w .2) (mark-kept links (a .home) (a .group) (l .loop .s) (l .loop .at) (a .clusters) (l .loop .marked) at marked (w .0 .taken) (p .pre .1 _ (w .0 .taken)) (w .1 .left)))
-          (λ w. rw (w .1) (mark-root links (a .home) (a .group) (l .loop .s) (l .loop .at) (a .clusters) (l .loop .marked) at marked (w .0 .left))))
+      ⊎-elim (λ w. rw (w .2) (mark-put at marked (w .0 .taken) (p .pre .1 _ (w .0 .taken)) (omega arith) (w .1 .taken)))
+          (⊎-elim (λ w. rw (w .2) (mark-kept at marked (w .0 .taken) (p .pre .1 _ (w .0 .taken)) (w .1 .left)))
+          (λ w. rw (w .1) (mark-root at marked (w .0 .left))))
           (c .before .if1 .came),
     )
 

@@ -13,7 +13,8 @@ use Rattle.tree_read.proofs.sorted.Statement.{statement}
 use Rattle.tree_read.proofs.sorted.Tie as tie
 
 abbrev Inv-loop : tie.InvT-loop
-Inv-loop n m clusters bytes list₀ low₀ i₀ list low i = (i ≤ m) × (list ≡ listOf n (take i (sortedOf (rowAt clusters (fromBytes bytes)) m))) × (low ≡ lastCluster (sortedOf (rowAt clusters (fromBytes bytes)) m) i)
+Inv-loop n m clusters bytes list₀ low₀ i₀ list low i =
+    let rows = sortedOf (rowAt clusters (fromBytes bytes)) m in (i ≤ m) × (list ≡ listOf n (take i rows)) × (low ≡ lastCluster rows i)
 
 abbrev μ-loop : tie.MeasureT-loop
 μ-loop n m clusters bytes list₀ low₀ i₀ list low i = m - i
