@@ -1,74 +1,21 @@
 // Document 01's figures that are run and not proved, a real matrix with its list from an independent program, and a differential run: grown lists
 // of small pseudo-random matrices and tables, uncut and cut into small allowances, against brute force over every split from the definition.
 use statement::Growth;
-use statement::Outcome;
 use statement::Splits;
 ghost use Prim.Native.Nat.{_<_, _≤_};
-
-fn say(text: &[u8]) {
-    io::write_all(1, text);
-}
-
-fn number(n: u64) {
-    io::print_decimal(1, n);
-}
-
-// One row: cluster, weight.
-fn print_row(list: Splits, i: usize) {
-    if i < 125 {
-        number(list.clusters[i]);
-        say(b" ");
-        number(list.weights[i] as u64);
-        say(b"\n");
-    }
-}
-
-fn print_rows(list: Splits) {
-    let mut i: usize = 0;
-    while i < 125 {
-        if i < list.rows {
-            print_row(list, i);
-        }
-        i += 1;
-    }
-}
-
-// What a run gives, as the program `splits` will print it.
-fn print(g: Growth) {
-    let o = g.outcome;
-    let list = g.list;
-    match o {
-        Outcome::Done => {
-            say(b"taxa ");
-            number(list.taxa as u64);
-            say(b" trials ");
-            number(g.trials);
-            say(b"\n");
-            print_rows(list);
-        }
-        Outcome::Short => say(b"short\n"),
-        Outcome::Refused(no, place) => {
-            say(b"refused ");
-            number(no as u64);
-            say(b" at ");
-            number(place as u64);
-            say(b"\n");
-        }
-    }
-}
 
 // n below 2 and above 64; the largest distance taken, and one more; the table of three taxa; all zeros at 64.
 fn edges() {
     let zeros = [0u32; 4225];
-    print(run::run_matrix(1, &zeros[..1]));
-    print(run::run_matrix(65, &zeros));
+    print::growth(run::run_matrix(1, &zeros[..1]));
+    print::growth(run::run_matrix(65, &zeros));
     let far = [0u32, 1000000, 1000000, 0];
-    print(run::run_matrix(2, &far));
+    print::growth(run::run_matrix(2, &far));
     let farther = [0u32, 1000001, 1000001, 0];
-    print(run::run_matrix(2, &farther));
+    print::growth(run::run_matrix(2, &farther));
     let bytes = [0u8; 1];
-    print(run::run_table(3, &bytes[..0]));
-    print(run::run_matrix(64, &zeros[..4096]));
+    print::growth(run::run_table(3, &bytes[..0]));
+    print::growth(run::run_matrix(64, &zeros[..4096]));
 }
 
 // Distances of seven primates, times 100,000 (test distances of PHYLIP 3.697).
@@ -152,59 +99,11 @@ fn comb_matrix() -> [u32; 4096] {
 fn comb() {
     let d = comb_matrix();
     let g = run::run_matrix(64, &d);
-    say(b"comb: rows ");
-    number(g.list.rows as u64);
-    say(b" trials ");
-    number(g.trials);
-    say(b"\n");
-}
-
-// Whether two lists are the same: k, the row count and the rows.
-fn same(a: Splits, b: Splits) -> bool {
-    let mut i: usize = 0;
-    while i < 125 {
-        if i < a.rows && (a.clusters[i] != b.clusters[i] || a.weights[i] != b.weights[i]) {
-            return false;
-        }
-        i += 1;
-    }
-    a.taxa == b.taxa && a.rows == b.rows
-}
-
-// How many entries a matrix of n taxa has, and how many bytes a table.
-fn entry_count(n: usize) -> usize {
-    match n {
-        2 => 4,
-        3 => 9,
-        4 => 16,
-        5 => 25,
-        6 => 36,
-        _ => 49,
-    }
-}
-
-fn byte_count(n: usize) -> usize {
-    match n {
-        4 => 1,
-        5 => 5,
-        6 => 15,
-        7 => 35,
-        _ => 0,
-    }
-}
-
-fn first_entries<'a>(d: &'a [u32], m: usize) -> &'a [u32] {
-    if m > d.len() {
-        return d;
-    }
-    &d[..m]
-}
-
-fn first_bytes<'a>(bytes: &'a [u8], m: usize) -> &'a [u8] {
-    if m > bytes.len() {
-        return bytes;
-    }
-    &bytes[..m]
+    print::say(b"comb: rows ");
+    print::number(g.list.rows as u64);
+    print::say(b" trials ");
+    print::number(g.trials);
+    print::say(b"\n");
 }
 
 // What is left of a growth in parts: the list so far and the trials of all parts.
@@ -257,14 +156,14 @@ fn table_in_parts(n: usize, bytes: &[u8], seed: u64) -> Parts {
 fn matrix_differs(n: usize, d: [u32; 49], seed: u64) -> u64
     requires { ⌜ n ≤ 7 ⌝ }
 {
-    let g = run::run_matrix(n, first_entries(&d, entry_count(n)));
+    let g = run::run_matrix(n, samples::first_entries(&d, samples::entry_count(n)));
     let list = g.list;
     if !brute::is_matrix_answer(n, &d, list) {
         return 1;
     }
-    let p = matrix_in_parts(n, first_entries(&d, entry_count(n)), seed);
+    let p = matrix_in_parts(n, samples::first_entries(&d, samples::entry_count(n)), seed);
     let parts = p.list;
-    if same(list, parts) && g.trials == p.trials {
+    if brute::same(list, parts) && g.trials == p.trials {
         return 0;
     }
     1
@@ -273,14 +172,18 @@ fn matrix_differs(n: usize, d: [u32; 49], seed: u64) -> u64
 fn table_differs(n: usize, bytes: [u8; 35], seed: u64) -> u64
     requires { ⌜ n ≤ 7 ⌝ }
 {
-    let g = run::run_table(n, first_bytes(&bytes, byte_count(n)));
+    let g = run::run_table(n, samples::first_bytes(&bytes, samples::byte_count(n)));
     let list = g.list;
     if !brute::is_table_answer(n, &bytes, list) {
         return 1;
     }
-    let p = table_in_parts(n, first_bytes(&bytes, byte_count(n)), seed);
+    let p = table_in_parts(
+        n,
+        samples::first_bytes(&bytes, samples::byte_count(n)),
+        seed,
+    );
     let parts = p.list;
-    if same(list, parts) && g.trials == p.trials {
+    if brute::same(list, parts) && g.trials == p.trials {
         return 0;
     }
     1
@@ -311,14 +214,14 @@ fn differential() {
         }
         i += 1;
     }
-    say(b"1200 matrices and 1440 tables; the last that differs (0: none): ");
-    number(count);
-    say(b"\n");
+    print::say(b"1200 matrices and 1440 tables; the last that differs (0: none): ");
+    print::number(count);
+    print::say(b"\n");
 }
 
 fn main() {
     edges();
-    print(run::run_matrix(7, &PRIMATES));
+    print::growth(run::run_matrix(7, &PRIMATES));
     comb();
     differential();
 }

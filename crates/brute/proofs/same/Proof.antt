@@ -1,8 +1,10 @@
--- `figures::same` is safe and ends. Assumes nothing.
+-- `brute::same` is safe, ends, and says yes only to as many rows. Assumes nothing.
 use Prim.Native.Nat.{_-_}
+use native.Mathlib.Omega.{arith}
+use mathlib.Core.Bool.{false≢true}
 use borrow.Author.Needs.{needs}
-use Rattle.figures.proofs.same.Statement.{statement}
-use Rattle.figures.proofs.same.Tie as tie
+use Rattle.brute.proofs.same.Statement.{statement}
+use Rattle.brute.proofs.same.Tie as tie
 
 abbrev Inv-loop : tie.InvT-loop
 Inv-loop a b i₀ i = Unit {0}
@@ -38,7 +40,7 @@ element-copy-out-if3-2 : tie.Need-element-copy-out-if3-2 Inv-loop μ-loop
 element-copy-out-if3-2 c = search needs
 
 returns : tie.Need-returns Inv-loop μ-loop
-returns c = search needs
+returns c e = absurd (false≢true e)
 
 add-i : tie.Need-add-i Inv-loop μ-loop
 add-i c = search needs
@@ -50,10 +52,10 @@ loop-again : tie.Need-loop-again Inv-loop μ-loop
 loop-again c = search needs
 
 returns-2 : tie.Need-returns-2 Inv-loop μ-loop
-returns-2 c = search needs
+returns-2 c e = absurd (false≢true e)
 
 returns-3 : tie.Need-returns-3 Inv-loop μ-loop
-returns-3 c = search needs
+returns-3 c e = omega arith
 
 pub same-spec : {M : Type 1} → statement M
 same-spec =

@@ -1,13 +1,13 @@
--- `figures::first_entries` is safe. Assumes nothing.
+-- `samples::first_entries` meets its contract. Assumes nothing.
 use native.Mathlib.Omega.{arith}
 use mathlib.Core.Path.{sym}
-use lib.Seq.{length-take-le}
+use lib.Seq.{length-take-le, take-all}
 use borrow.Author.Needs.{needs}
-use Rattle.figures.proofs.first_entries.Statement.{statement}
-use Rattle.figures.proofs.first_entries.Tie as tie
+use Rattle.samples.proofs.first_entries.Statement.{statement}
+use Rattle.samples.proofs.first_entries.Tie as tie
 
 returns : tie.Need-returns
-returns c = search needs
+returns c = let s = c .before in sym (take-all (s .args .m) (s .args .d .now) (omega arith))
 
 slice-aggregate-result : tie.Need-slice-aggregate-result
 slice-aggregate-result c = sym (length-take-le _ _ (omega arith))

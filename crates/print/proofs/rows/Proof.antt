@@ -1,8 +1,8 @@
--- `figures::print_rows` is safe and ends. Assumes nothing.
+-- `print::rows` is safe and ends. Assumes nothing.
 use Prim.Native.Nat.{_-_}
 use borrow.Author.Needs.{needs}
-use Rattle.figures.proofs.print_rows.Statement.{statement}
-use Rattle.figures.proofs.print_rows.Tie as tie
+use Rattle.print.proofs.rows.Statement.{statement}
+use Rattle.print.proofs.rows.Tie as tie
 
 abbrev Inv-loop : tie.InvT-loop
 Inv-loop list i₀ i = Unit {0}
@@ -13,8 +13,8 @@ abbrev μ-loop : tie.MeasureT-loop
 loop-holds : tie.Need-loop-holds Inv-loop μ-loop
 loop-holds c = search needs
 
-print-row-requires : tie.Need-print-row-requires Inv-loop μ-loop
-print-row-requires c κs = search needs
+row-requires : tie.Need-row-requires Inv-loop μ-loop
+row-requires c κs = search needs
 
 add-i : tie.Need-add-i Inv-loop μ-loop
 add-i c = search needs
@@ -28,7 +28,7 @@ loop-again c = search needs
 returns : tie.Need-returns Inv-loop μ-loop
 returns c = search needs
 
-pub print-rows-spec : {M : Type 1} → statement M
-print-rows-spec =
+pub rows-spec : {M : Type 1} → statement M
+rows-spec =
     tie.close
-    (tie.spec Inv-loop μ-loop loop-holds print-row-requires add-i loop-less loop-again returns)
+    (tie.spec Inv-loop μ-loop loop-holds row-requires add-i loop-less loop-again returns)
