@@ -132,7 +132,11 @@ pub fn find_record(bytes: &[u8]) -> Outcome
         return Outcome::Refused(15, 0);
     }
     let kind = bytes[2];
-    let all = Taken { matrices: true, tables: true, trees: true };
+    let all = Taken {
+        matrices: true,
+        tables: true,
+        trees: true,
+    };
     if !takes(all, kind) {
         return Outcome::Refused(17, 0);
     }
@@ -173,7 +177,11 @@ pub fn find_taken(bytes: &[u8], taken: Taken) -> Outcome
     if number_of(said) != 0 {
         return said;
     }
-    if takes(taken, bytes[2]) { Outcome::Done } else { Outcome::Refused(17, 0) }
+    if takes(taken, bytes[2]) {
+        Outcome::Done
+    } else {
+        Outcome::Refused(17, 0)
+    }
 }
 
 // The body, as that stretch of the caller's own bytes; a refused finding gives an empty stretch.

@@ -2,7 +2,7 @@
 use Prim.Native.Nat.{ℕ, _≤_, _<_}
 use native.Mathlib.Omega.{arith}
 use mathlib.Core.Path.{_≡_, refl, sym, _∙_, ap}
-use mathlib.Core.Logic.{_↔_, _≢_, _⊎_, inl, inr}
+use mathlib.Core.Logic.{_↔_, _≢_, _⊎_, inl, inr, ⊎-elim}
 use mathlib.Core.Bool.{Bool, true, false, cond}
 use mathlib.Core.List.{List, [], _∷_, _++_}
 use borrow.Author.Tests.{ltb-true, lt-ltb, le-ltb}
@@ -108,18 +108,27 @@ never-short checks e = go (either checks)
     go (inl p) = let q : Done ≡ Short = sym (passed-done checks p) ∙ e in let z : _≡_ {A = ℕ} 0 1 = cc in omega arith
     go (inr (number, place, g)) = let q : Refused number place ≡ Short = sym (given-refused checks number place g) ∙ e in let z : _≡_ {A = ℕ} 0 1 = cc in omega arith
 
--- where no line has the number 0, the outcome's number tells whether all are passed
-abbrev pub Numbered : List Check → Type 0
-Numbered [] = Unit {0}
-Numbered (c ∷ cs) = (c .number ≢ 0) × Numbered cs
+-- PLAIN ORDERS, where no line has the number 0 and each has one place: the outcome's number tells all
+abbrev pub Plain : List Check → Type 0
+Plain [] = Unit {0}
+Plain (c ∷ cs) = ((c .number ≢ 0) × (c .places ≡ 1)) × Plain cs
 
-given-numbered : (checks : List Check) (number place : ℕ) → Numbered checks → Given checks number place → number ≢ 0
-given-numbered (c ∷ cs) number place (p, ps) (inl f) = λ z. p (f .named ∙ z)
-given-numbered (c ∷ cs) number place (p, ps) (inr (q, g)) = given-numbered cs number place ps g
+given-plain : (checks : List Check) (number place : ℕ) → Plain checks → Given checks number place → (number ≢ 0) × (place ≡ 0)
+given-plain (c ∷ cs) number place ((p, one), ps) (inl f) = ((λ z. p (f .named ∙ z)), let l = f .within in omega arith)
+given-plain (c ∷ cs) number place (p, ps) (inr (q, g)) = given-plain cs number place ps g
 
-pub done-by-number : (checks : List Check) → Numbered checks → numberOf (outcomeOf checks) ≡ 0 → outcomeOf checks ≡ Done
-done-by-number checks ps e = go (either checks)
-  where
-    go : AllPassed checks ⊎ ((number place : ℕ) × Given checks number place) → outcomeOf checks ≡ Done
-    go (inl p) = passed-done checks p
-    go (inr (number, place, g)) = absurd (given-numbered checks number place ps g (sym (ap numberOf (given-refused checks number place g)) ∙ e))
+module _ (checks : List Check) (ps : Plain checks) where
+  plain : (outcomeOf checks ≡ Done) ⊎ ((number : ℕ) × (number ≢ 0) × (outcomeOf checks ≡ Refused number 0))
+  plain = go (either checks)
+    where
+      go : AllPassed checks ⊎ ((number place : ℕ) × Given checks number place) → (outcomeOf checks ≡ Done) ⊎ ((number : ℕ) × (number ≢ 0) × (outcomeOf checks ≡ Refused number 0))
+      go (inl p) = inl (passed-done checks p)
+      go (inr (number, place, g)) =
+          let (other, e) = given-plain checks number place ps g in
+          inr (number, other, given-refused checks number place g ∙ ap (λ (at : ℕ). Refused number at) e)
+
+  pub done-by-number : numberOf (outcomeOf checks) ≡ 0 → outcomeOf checks ≡ Done
+  done-by-number e = ⊎-elim (λ d. d) (λ (number, other, r). absurd (other (sym (ap numberOf r) ∙ e))) plain
+
+  pub refused-by-number : numberOf (outcomeOf checks) ≢ 0 → outcomeOf checks ≡ Refused (numberOf (outcomeOf checks)) 0
+  refused-by-number n = ⊎-elim (λ d. absurd (n (ap numberOf d))) (λ (number, other, r). r ∙ ap (λ (m : ℕ). Refused m 0) (sym (ap numberOf r))) plain

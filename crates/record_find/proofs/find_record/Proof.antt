@@ -99,7 +99,7 @@ shared-slice-read-if3 c = search needs
 returns-2 : tie.Need-returns-2
 returns-2 c =
     sym (past-header (c .before .before) ∙ refused-unless 15 _ _ (mark-passed (from-header (c .before .before)))
-      (λ e. ⊎-elim (λ w. w .taken (e .0)) (λ w. eqb-false _ _ (not-true _ (w .2 .taken)) (e .1)) (c .if2 .came)))
+    (λ e. ⊎-elim (λ w. w .taken (e .0)) (λ w. eqb-false _ _ (not-true _ (w .2 .taken)) (e .1)) (c .if2 .came)))
 
 shared-slice-read-kind : tie.Need-shared-slice-read-kind
 shared-slice-read-kind c = search needs
@@ -110,7 +110,7 @@ takes-requires c κs = search needs
 returns-3 : tie.Need-returns-3
 returns-3 c =
     sym (past-mark (c .before .before .before) ∙ refused-unless 17 _ _ (good-passed 17 _)
-      (λ e. true≢false (sym e ∙ sym (c .before .takes .ensures) ∙ not-true _ (c .if4 .taken))))
+    (λ e. true≢false (sym e ∙ sym (c .before .takes .ensures) ∙ not-true _ (c .if4 .taken))))
 
 shared-slice-read-wide : tie.Need-shared-slice-read-wide
 shared-slice-read-wide c = search needs
@@ -122,8 +122,8 @@ returns-4 : tie.Need-returns-4
 returns-4 c =
     let e = c .before .wide .ensures .0 in
     sym (past-kind (c .before .before .before) ∙ ⊎-elim
-      (λ w. too-few _ _ (rw e at (w .taken)))
-      (λ w. too-many _ _ (rw e at (ltb-true 64 (c .before .wide .result) (w .1 .taken)))) (c .if5 .came))
+    (λ w. too-few _ _ (rw e at (w .taken)))
+    (λ w. too-many _ _ (rw e at (ltb-true 64 (c .before .wide .result) (w .1 .taken)))) (c .if5 .came))
 
 length-in-requires : tie.Need-length-in-requires
 length-in-requires c κs = search needs
@@ -134,7 +134,7 @@ length-fits-requires c κs = search needs
 returns-5 : tie.Need-returns-5
 returns-5 c =
     sym (past-taxa (c .before .before .before) ∙ refused-unless 2 _ _ (good-passed 2 _)
-      (λ e. true≢false (sym e ∙ sym (said-fits (c .before)) ∙ not-true _ (c .if7 .taken))))
+    (λ e. true≢false (sym e ∙ sym (said-fits (c .before)) ∙ not-true _ (c .if7 .taken))))
 
 record-length-requires : tie.Need-record-length-requires
 record-length-requires c κs = search needs
@@ -155,17 +155,17 @@ word-sum-requires c κs = search needs
 returns-7 : tie.Need-returns-7
 returns-7 c =
     sym (past-whole (c .before .before) ∙ refused-unless 18 _ _ (sum-passed (padIn (from-whole (c .before .before))) _)
-      (λ e. ⊎-elim
-        (λ w. true≢false (sym (eq-eqb _ _ (e .0)) ∙ sym (c .before .pad-is-zero .ensures) ∙ not-true _ (w .taken)))
-        (λ w.
-          let summed : tie.After-word-sum = record { before = record { before = record { before = c .before; if9 = w .0 }; word-sum-arg = w .1 }; word-sum = w .2 } in
-          eqb-false _ _ (not-true _ (w .3 .taken)) (said-sum summed ∙ e .1)) (c .if9 .came)))
+    (λ e. ⊎-elim
+    (λ w. true≢false (sym (eq-eqb _ _ (e .0)) ∙ sym (c .before .pad-is-zero .ensures) ∙ not-true _ (w .taken)))
+    (λ w.
+    let summed : tie.After-word-sum = record { before = record { before = record { before = c .before; if9 = w .0 }; word-sum-arg = w .1 }; word-sum = w .2 } in
+    eqb-false _ _ (not-true _ (w .3 .taken)) (said-sum summed ∙ e .1)) (c .if9 .came)))
 
 returns-8 : tie.Need-returns-8
 returns-8 c =
     let padded = c .before .before .before .before in
     sym (past-whole (padded .before) ∙ first-passed _ _ (sum-passed (padIn (from-whole (padded .before))) _ .1
-      (eqb-true _ _ (sym (padded .pad-is-zero .ensures) ∙ not-false _ (c .before .before .before .if9 .left)), sym (said-sum (c .before)) ∙ eqb-true _ _ (not-false _ (c .if10 .left)))) ∙ none-left)
+    (eqb-true _ _ (sym (padded .pad-is-zero .ensures) ∙ not-false _ (c .before .before .before .if9 .left)), sym (said-sum (c .before)) ∙ eqb-true _ _ (not-false _ (c .if10 .left)))) ∙ none-left)
 
 pub find-record-spec : {M : Type 1} → statement M
 find-record-spec =
