@@ -220,3 +220,20 @@ pub fn is_table_answer(n: usize, bytes: &[u8; 35], list: Splits) -> bool
     }
     row == list.rows
 }
+
+// Whether two lists are the same: k, the row count and the rows.
+pub fn same(a: Splits, b: Splits) -> bool
+    ensures { λ r. ⌜ (r ≡ true → a .rows ≡ b .rows) ⌝ }
+{
+    let mut i: usize = 0;
+    while i < 125 {
+        if i < a.rows && (a.clusters[i] != b.clusters[i] || a.weights[i] != b.weights[i]) {
+            return false;
+        }
+        i += 1;
+    }
+    if a.rows != b.rows {
+        return false;
+    }
+    a.taxa == b.taxa
+}

@@ -1,5 +1,5 @@
 -- The replies of growth and of the whole run, by the kind of the source. Assumes nothing.
-use Prim.Native.Nat.{ℕ, suc, _+_, _*_, _-_, _≤_, _<_}
+use Prim.Native.Nat.{ℕ, _-_, _≤_}
 use native.Mathlib.Omega.{arith}
 use native.Mathlib.Decide.{ℕ-discrete}
 use native.Mathlib.Nat.{mul-le-mul, le-refl}
@@ -7,23 +7,21 @@ use mathlib.Core.Path.{_≡_, refl, sym, _∙_, ap, subst}
 use mathlib.Core.Logic.{_≢_}
 use mathlib.Core.Bool.{true, false, true≢false}
 use mathlib.Core.List.{List, [], _∷_}
-use lib.ListN.{length}
 use Rattle.statement.specs.declared.Splits.{Splits}
-use Rattle.statement.specs.declared.Growth.{Growth}
 use Rattle.statement.specs.declared.Outcome.{Outcome}
 use Rattle.statement.specs.declared.Outcome.the-variants.{Done, Short, Refused}
-use Rattle.statement.specs.Matrix.{distance, weightLimit}
+use Rattle.statement.specs.Matrix.{weightLimit}
 use Rattle.statement.specs.Table.{tableWeight}
 use Rattle.statement.specs.Rows.{listOf, wellFormed, WellFormed}
-use Rattle.statement.specs.Growing.{matrixTrial, tableTrial, grown, trialsAt, wholeRun}
+use Rattle.statement.specs.Growing.{grown, trialsAt}
 use Rattle.statement.specs.Lowest.{lowestFrom}
 use Rattle.statement.specs.Refusals.{outcomeOf, listOff, matrixChecks, tableChecks}
-use Rattle.statement.specs.Calls.{refusedRun, refusedGrowth, runMatrix, runTable, growMatrix, growTable}
+use Rattle.statement.specs.Calls.{runMatrix, runTable, growMatrix, growTable}
 use Rattle.statement.proofs.Refused.{append-checks, never-short}
 use Rattle.statement.proofs.Accepted.{matrix-accepted, table-accepted}
 use Rattle.statement.proofs.Lists.{rows-of-list}
 use Rattle.statement.proofs.Run.{run-bound, grown-whole}
-use Rattle.grow.specs.Source.{trialBy, mostBy, Source}
+use Rattle.grow.specs.Source.{trialBy, mostBy}
 use Rattle.grow.proofs.Sources.{by-matrix, by-table, most-matrix, most-table, rule}
 use Rattle.run.specs.Replies.{isDone, Checked, listChecked, growBy, runBy}
 

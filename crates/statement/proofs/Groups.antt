@@ -1,13 +1,18 @@
--- The number of a group has the bits that its test says. Assumes nothing.
+-- The number of a group has the bits that its test says; groups that are part of others. Assumes nothing.
 use Prim.Native.Nat.{ℕ, zero, suc, _+_, _^_, _≤_, _<_}
 use native.Mathlib.Omega.{arith}
 use native.Mathlib.Decide.{decLt}
 use mathlib.Core.Path.{_≡_, refl, sym, _∙_, ap}
-use mathlib.Core.Logic.{_⊎_, inl, inr}
-use mathlib.Core.Bool.{Bool, true, false, cond}
+use mathlib.Core.Logic.{_≢_, _↔_, Iff·trans}
+use mathlib.Core.Bool.{Bool, true, false, cond, not, _&&_}
+use lib.Dec.{eqb}
 use lib.Pow.{pow-pos}
-use Rattle.statement.specs.Cluster.{bit, In, Out, groupOf}
+use borrow.Author.Tests.{eqb-true, eqb-false, eq-eqb, ne-eqb, not-true}
+use Rattle.statement.specs.Cluster.{bit, In, groupOf}
+use Rattle.statement.specs.Lowest.{some}
+use Rattle.statement.specs.Tree.{strictlyIn}
 use Rattle.statement.proofs.Bits.{lt-bit, bit-plus, bit-past, bit-top}
+use Rattle.statement.proofs.Tests.{both-is, none-is, unless-is}
 
 pub group-below : (test : ℕ → Bool) (n : ℕ) → groupOf test n < 2 ^ n
 unfolding groupOf
@@ -42,10 +47,33 @@ group-bit test (suc n) i l = go (test n) refl (decLt i n) (λ h. group-bit test 
         let q : i ≡ n = omega arith in
         ap (λ (c : ℕ). bit c i) none ∙ ap (bit (groupOf test n)) q ∙ bit-past (groupOf test n) n (group-below test n) ∙ last false e q
 
+-- every taxon below n of the group a is in the group b; strictly, where the two differ
+abbrev pub Part : ℕ → ℕ → ℕ → Type 0
+Part n a b = (i : ℕ) → i < n → In a i → In b i
+
+pub record Strictly (n a b : ℕ) : Type 0 where
+  pub part : Part n a b
+  pub other : a ≢ b
+
 -- a group that is part of another has no greater number
-pub part-le : (n a b : ℕ) → a < 2 ^ n → ((i : ℕ) → i < n → In a i → In b i) → a ≤ b
+pub part-le : (n a b : ℕ) → a < 2 ^ n → Part n a b → a ≤ b
 part-le n a b la part = go (decLt b a)
   where
     go : Dec (b < a) → a ≤ b
     go (yes h) = let (i, l, ob, ia) = lt-bit n b a h la in absurd (omega (arith, part i l ia))
     go (no h) = omega arith
+
+-- and the tree's test says whether it is strictly part of it
+pub strictly-is : (n a b : ℕ) → (strictlyIn n a b ≡ true) ↔ Strictly n a b
+strictly-is n a b =
+    let lacked : ℕ → Bool = λ i. eqb (bit a i) 1 && eqb (bit b i) 0 in
+    let all = both-is (Iff·trans (not-true (some lacked n), ap not) (none-is lacked n here)) ((λ e. eqb-false a b (not-true _ e)), (λ o. ap not (ne-eqb a b o))) in
+    ((λ e. record { part = all .0 e .0; other = all .0 e .1 }), (λ s. all .1 (s .part, s .other)))
+  where
+    inside : (i : ℕ) → (eqb (bit b i) 0 ≡ false) ↔ In b i
+    inside i = ((λ e. omega (arith, eqb-false (bit b i) 0 e)), (λ h. ne-eqb (bit b i) 0 (λ o. omega arith)))
+
+    here : (i : ℕ) → (eqb (bit a i) 1 && eqb (bit b i) 0 ≡ false) ↔ (In a i → In b i)
+    here i =
+        let u = unless-is (eqb (bit a i) 1) (inside i) in
+        ((λ e h. u .0 e (eq-eqb (bit a i) 1 h)), (λ f. u .1 (λ q. f (eqb-true (bit a i) 1 q))))

@@ -33,3 +33,4 @@ pub mod Scores
 pub mod Walks
 pub mod WellFormed
 pub mod Unique
+pub mod Outputs

@@ -3,20 +3,14 @@ use Prim.Native.Nat.{ℕ, zero, suc, _+_, _^_, _≤_, _<_}
 use native.Mathlib.Omega.{arith}
 use native.Mathlib.Decide.{decLt}
 use mathlib.Core.Path.{_≡_, refl, sym, _∙_, ap}
-use mathlib.Core.Logic.{_⊎_, inl, inr}
-use mathlib.Core.Bool.{Bool, true, false, not, _&&_, true≢false}
-use mathlib.Core.List.{List, [], _∷_, map}
-use lib.Dec.{eqb}
+use mathlib.Core.Bool.{true}
+use mathlib.Core.List.{List, map}
 use lib.ListN.{length, getD, length-map, List·getD-eq-default}
-use borrow.Author.Tests.{eqb-true, eqb-false, eq-eqb, not-true}
-use Rattle.statement.specs.Cluster.{bit, In, Out}
-use Rattle.statement.specs.Lowest.{lowest, some}
-use Rattle.statement.specs.Rows.{Row, clusters, Ascending, Listed}
-use Rattle.statement.specs.Tree.{numbers, Tree, root, clusterAt, strictlyIn, linkOf, treeOf, up, walk, onWalk}
-use Rattle.statement.proofs.Bits.{zero-or-one}
+use Rattle.statement.specs.Rows.{Row, clusters, Ascending}
+use Rattle.statement.specs.Tree.{numbers, root, clusterAt, strictlyIn, linkOf, homeOf, treeOf, up, walk}
 use Rattle.statement.proofs.Listed.{asc-getD, asc-mem, mem-getD}
-use Rattle.statement.proofs.Lowest.{Lowest, lowest-is, none-of}
-use Rattle.statement.proofs.Groups.{part-le}
+use Rattle.statement.proofs.Lowest.{Lowest, lowest-is}
+use Rattle.statement.proofs.Groups.{Strictly, strictly-is, part-le}
 
 -- the numbers from i on
 pub numbers-length : (i m : ℕ) → length (numbers i m) ≡ m
@@ -37,43 +31,49 @@ map-at f i zero j other l = absurd (omega arith)
 map-at f i (suc m) zero other l = ap f (omega arith)
 map-at f i (suc m) (suc j) other l = map-at f (suc i) m j other (omega arith) ∙ ap f (omega arith)
 
+-- the tree of a list has a vertex for each row and its root above them; a step up goes to the link
+pub root-is : (n : ℕ) (rows : List Row) → root (treeOf n rows) ≡ length rows
+unfolding treeOf
+root-is n rows = length-map (numbers 0 (length rows)) (linkOf n rows) ∙ numbers-length 0 (length rows)
+
+pub link-is : (n : ℕ) (rows : List Row) (v other : ℕ) → v < length rows → getD (treeOf n rows .links) v other ≡ linkOf n rows v
+unfolding treeOf
+link-is n rows v other l = map-at (linkOf n rows) 0 (length rows) v other l ∙ ap (linkOf n rows) (omega arith)
+
+pub home-is : (n : ℕ) (rows : List Row) (taxon : ℕ) → taxon < n → getD (treeOf n rows .homes) taxon 0 ≡ homeOf rows taxon
+unfolding treeOf
+home-is n rows taxon l = map-at (homeOf rows) 0 n taxon 0 l ∙ ap (homeOf rows) (omega arith)
+
+pub up-is : (n : ℕ) (rows : List Row) (v : ℕ) → v < length rows → up (treeOf n rows) v ≡ linkOf n rows v
+up-is n rows v l = link-is n rows v (root (treeOf n rows)) l
+
+pub up-root : (n : ℕ) (rows : List Row) (v : ℕ) → length rows ≤ v → up (treeOf n rows) v ≡ length rows
+up-root n rows v l = List·getD-eq-default (treeOf n rows .links) (root (treeOf n rows)) (omega (arith, root-is n rows)) ∙ root-is n rows
+
 module _ (n : ℕ) (rows : List Row) (asc : Ascending 1 (2 ^ n) (clusters rows)) where
   count : length (clusters rows) ≡ length rows
   count = length-map rows (λ r. r .cluster)
 
-  cluster-below : (i : ℕ) → i < length rows → clusterAt rows i < 2 ^ n
-  cluster-below i l = asc-mem 1 (2 ^ n) (clusters rows) asc (clusterAt rows i) (mem-getD (clusters rows) i (omega (arith, count))) .1
+  pub cluster-range : (i : ℕ) → i < length rows → (1 ≤ clusterAt rows i) × (clusterAt rows i < 2 ^ n)
+  cluster-range i l = asc-mem 1 (2 ^ n) (clusters rows) asc (clusterAt rows i) (mem-getD (clusters rows) i (omega (arith, count)))
+
+  pub ascending : (i j : ℕ) → i < j → j < length rows → clusterAt rows i < clusterAt rows j
+  ascending i j l lj = asc-getD 1 (2 ^ n) (clusters rows) asc i j l (omega (arith, count))
 
   -- a cluster strictly in another has a lower number, and so a lower row
   strictly-below : (i j : ℕ) → i < length rows → j < length rows → strictlyIn n (clusterAt rows i) (clusterAt rows j) ≡ true → i < j
   strictly-below i j li lj e = go (decLt i j) (decLt j i)
     where
-      parts : (none-test : Bool) → (other : Bool) → (none-test && other) ≡ true → (none-test ≡ true) × (other ≡ true)
-      parts true o q = (refl, q)
-      parts false o q = absurd (true≢false (sym q))
-
-      both : (not (some (λ t. eqb (bit (clusterAt rows i) t) 1 && eqb (bit (clusterAt rows j) t) 0) n) ≡ true) × (not (eqb (clusterAt rows i) (clusterAt rows j)) ≡ true)
-      both = parts _ _ e
-
-      inside : (t : ℕ) → t < n → In (clusterAt rows i) t → In (clusterAt rows j) t
-      inside t l h = at (zero-or-one (clusterAt rows j) t)
-        where
-          at : Out (clusterAt rows j) t ⊎ In (clusterAt rows j) t → In (clusterAt rows j) t
-          at (inr k) = k
-          at (inl o) =
-              absurd (true≢false (sym (rw (eq-eqb (bit (clusterAt rows i) t) 1 h) (eq-eqb (bit (clusterAt rows j) t) 0 o))
-              ∙ none-of (λ t. eqb (bit (clusterAt rows i) t) 1 && eqb (bit (clusterAt rows j) t) 0) n (not-true _ (both .0)) t l))
+      inside : Strictly n (clusterAt rows i) (clusterAt rows j)
+      inside = strictly-is n (clusterAt rows i) (clusterAt rows j) .0 e
 
       le : clusterAt rows i ≤ clusterAt rows j
-      le = part-le n (clusterAt rows i) (clusterAt rows j) (cluster-below i li) inside
-
-      ne : clusterAt rows i ≡ clusterAt rows j → ⊥
-      ne = eqb-false (clusterAt rows i) (clusterAt rows j) (not-true _ (both .1))
+      le = part-le n (clusterAt rows i) (clusterAt rows j) (cluster-range i li .1) (inside .part)
 
       go : Dec (i < j) → Dec (j < i) → i < j
       go (yes l) d = l
-      go (no l) (yes k) = absurd (omega (arith, asc-getD 1 (2 ^ n) (clusters rows) asc j i k (omega (arith, count)), le))
-      go (no l) (no k) = let same : i ≡ j = omega arith in absurd (ne (ap (clusterAt rows) same))
+      go (no l) (yes k) = absurd (omega (arith, ascending j i k li, le))
+      go (no l) (no k) = let same : i ≡ j = omega arith in absurd (inside .other (ap (clusterAt rows) same))
 
   -- a link is the root or a later row
   pub link-later : (i : ℕ) → i < length rows → (i < linkOf n rows i) × (linkOf n rows i ≤ length rows)
@@ -87,18 +87,6 @@ module _ (n : ℕ) (rows : List Row) (asc : Ascending 1 (2 ^ n) (clusters rows))
       go (yes h) = strictly-below i (linkOf n rows i) l h (low .hit (omega arith))
       go (no h) = omega arith
 
-  root-is : root (treeOf n rows) ≡ length rows
-  unfolding treeOf
-  root-is = length-map (numbers 0 (length rows)) (linkOf n rows) ∙ numbers-length 0 (length rows)
-
-  up-is : (v : ℕ) → v < length rows → up (treeOf n rows) v ≡ linkOf n rows v
-  unfolding treeOf
-  up-is v l = map-at (linkOf n rows) 0 (length rows) v _ l ∙ ap (linkOf n rows) (omega arith)
-
-  up-root : (v : ℕ) → length rows ≤ v → up (treeOf n rows) v ≡ length rows
-  unfolding treeOf
-  up-root v l = List·getD-eq-default (map (linkOf n rows) (numbers 0 (length rows))) (root (treeOf n rows)) (omega (arith, root-is)) ∙ root-is
-
   -- so a walk of as many steps as remain ends at the root
   walk-ends : (s v : ℕ) → v ≤ length rows → length rows ≤ s + v → walk (treeOf n rows) s v ≡ length rows
   unfolding walk
@@ -109,9 +97,9 @@ module _ (n : ℕ) (rows : List Row) (asc : Ascending 1 (2 ^ n) (clusters rows))
           → walk (treeOf n rows) s (up (treeOf n rows) v) ≡ length rows
       go (yes k) ih =
           let q = link-later v k in
-          ap (walk (treeOf n rows) s) (up-is v k) ∙ ih (linkOf n rows v) (q .1) (omega (arith, q .0))
-      go (no k) ih = ap (walk (treeOf n rows) s) (up-root v (omega arith)) ∙ ih (length rows) (omega arith) (omega arith)
+          ap (walk (treeOf n rows) s) (up-is n rows v k) ∙ ih (linkOf n rows v) (q .1) (omega (arith, q .0))
+      go (no k) ih = ap (walk (treeOf n rows) s) (up-root n rows v (omega arith)) ∙ ih (length rows) (omega arith) (omega arith)
 
   -- EVERY WALK UP THE TREE OF A LIST ENDS AT ITS ROOT
   pub walks-end : (v : ℕ) → v ≤ length rows → walk (treeOf n rows) (length rows) v ≡ root (treeOf n rows)
-  walks-end v l = walk-ends (length rows) v l (omega arith) ∙ sym root-is
+  walks-end v l = walk-ends (length rows) v l (omega arith) ∙ sym (root-is n rows)

@@ -17,7 +17,7 @@ use Rattle.statement.specs.Rows.{rowsOf, listOf}
 use Rattle.statement.specs.Growing.{matrixTrial, tableTrial, grown, wholeRun}
 use Rattle.statement.specs.Tree.{treeOf, rowsOfTree, pathSums}
 use Rattle.statement.specs.Bytes.{treeBody, treeIn, treeLength}
-use Rattle.statement.specs.Refusals.{Check, outcomeOf, listOff, matrixChecks, tableChecks, treeChecks, outputChecks}
+use Rattle.statement.specs.Refusals.{outcomeOf, listOff, matrixChecks, tableChecks, treeChecks, outputChecks}
 use Rattle.statement.specs.Record.{recordChecks, recordLength, lengthIn, recordOf, writingChecks}
 
 -- by the outcome of the checks: what a refusal leaves, else what the call gives
