@@ -15,7 +15,7 @@ use Rattle.statement.specs.Refusals.{numberOf, Check, outcomeOf, Passed, AllPas
 use Rattle.statement.specs.Record.{kinds, isKind, fitsKind, kindIn, taxaIn, lengthIn, recordLength, padIn, recordChecks, bodyIn}
 use Rattle.statement.specs.Calls.{unlessRefused, findRecord}
 use Rattle.statement.proofs.Tests.{same-is, both-is, neither-is, not-is, not-less-is}
-use Rattle.statement.proofs.Refused.{refused-single, accepted-exactly, append-checks, Plain, done-by-number, refused-by-number}
+use Rattle.statement.proofs.Refused.{refused-single, accepted-exactly, append-checks, done-by-number, refused-by-number}
 use Rattle.statement.proofs.Accepted.{single-passed, taxa-passed}
 use Rattle.record_find.specs.Stretch.{bodyStart}
 
@@ -81,19 +81,16 @@ found-exactly bytes = Iff·trans (accepted-exactly (recordChecks bytes)) (there,
     )
 
 -- the outcome's number tells all
-plain-record : (bytes : List ℕ) → Plain (recordChecks bytes)
-plain-record bytes = (other, (other, (other, (other, (other, (other, (other, tt)))))))
-  where
-    other : {number : ℕ} → (suc number ≢ 0) × (_≡_ {A = ℕ} 1 1)
-    other = ((λ z. omega arith), refl)
-
 pub found-by-number : (bytes : List ℕ) → numberOf (findRecord bytes) ≡ 0 → findRecord bytes ≡ Done
 unfolding findRecord
-found-by-number bytes = done-by-number (recordChecks bytes) (plain-record bytes)
+found-by-number bytes = done-by-number (recordChecks bytes) (other, (other, (other, (other, (other, (other, (other, tt)))))))
+  where
+    other : {number : ℕ} → suc number ≢ 0
+    other z = omega arith
 
 pub refused-record : (bytes : List ℕ) → numberOf (findRecord bytes) ≢ 0 → findRecord bytes ≡ Refused (numberOf (findRecord bytes)) 0
 unfolding findRecord
-refused-record bytes = refused-by-number (recordChecks bytes) (plain-record bytes)
+refused-record bytes = refused-by-number (recordChecks bytes) (refl, (refl, (refl, (refl, (refl, (refl, (refl, tt)))))))
 
 -- THE BODY, of a record with this body length
 module _ (bytes : List ℕ) where

@@ -1,8 +1,8 @@
 -- EXACTLY WHEN, for every number of every call at once: an order of checks gives a number at a place exactly when the table says so. Assumes nothing.
 use Prim.Native.Nat.{ℕ, _≤_, _<_}
 use native.Mathlib.Omega.{arith}
-use mathlib.Core.Path.{_≡_, refl, sym, _∙_, ap}
-use mathlib.Core.Logic.{_↔_, _≢_, _⊎_, inl, inr, ⊎-elim}
+use mathlib.Core.Path.{_≡_, refl, sym, _∙_, ap, ap₂}
+use mathlib.Core.Logic.{_↔_, _≢_, _⊎_, inl, inr}
 use mathlib.Core.Bool.{Bool, true, false, cond}
 use mathlib.Core.List.{List, [], _∷_, _++_}
 use borrow.Author.Tests.{ltb-true, lt-ltb, le-ltb}
@@ -108,27 +108,34 @@ never-short checks e = go (either checks)
     go (inl p) = let q : Done ≡ Short = sym (passed-done checks p) ∙ e in let z : _≡_ {A = ℕ} 0 1 = cc in omega arith
     go (inr (number, place, g)) = let q : Refused number place ≡ Short = sym (given-refused checks number place g) ∙ e in let z : _≡_ {A = ℕ} 0 1 = cc in omega arith
 
--- PLAIN ORDERS, where no line has the number 0 and each has one place: the outcome's number tells all
-abbrev pub Plain : List Check → Type 0
-Plain [] = Unit {0}
-Plain (c ∷ cs) = ((c .number ≢ 0) × (c .places ≡ 1)) × Plain cs
+-- BY ITS NUMBER: what is so of each line is so of the one that fails
+abbrev pub Each : (Check → Type 0) → List Check → Type 0
+Each P [] = Unit {0}
+Each P (c ∷ cs) = P c × Each P cs
 
-given-plain : (checks : List Check) (number place : ℕ) → Plain checks → Given checks number place → (number ≢ 0) × (place ≡ 0)
-given-plain (c ∷ cs) number place ((p, one), ps) (inl f) = ((λ z. p (f .named ∙ z)), let l = f .within in omega arith)
-given-plain (c ∷ cs) number place (p, ps) (inr (q, g)) = given-plain cs number place ps g
+given-each : (P : Check → Type 0) (checks : List Check) (number place : ℕ) → Each P checks → Given checks number place → (c : Check) × P c × Fails c number place
+given-each P (c ∷ cs) number place (p, ps) (inl f) = (c, p, f)
+given-each P (c ∷ cs) number place (p, ps) (inr (q, g)) = given-each P cs number place ps g
 
-module _ (checks : List Check) (ps : Plain checks) where
-  plain : (outcomeOf checks ≡ Done) ⊎ ((number : ℕ) × (number ≢ 0) × (outcomeOf checks ≡ Refused number 0))
-  plain = go (either checks)
-    where
-      go : AllPassed checks ⊎ ((number place : ℕ) × Given checks number place) → (outcomeOf checks ≡ Done) ⊎ ((number : ℕ) × (number ≢ 0) × (outcomeOf checks ≡ Refused number 0))
-      go (inl p) = inl (passed-done checks p)
-      go (inr (number, place, g)) =
-          let (other, e) = given-plain checks number place ps g in
-          inr (number, other, given-refused checks number place g ∙ ap (λ (at : ℕ). Refused number at) e)
+-- where no line has the number 0, an outcome with the number 0 is Done
+pub done-by-number : (checks : List Check) → Each (λ c. c .number ≢ 0) checks → numberOf (outcomeOf checks) ≡ 0 → outcomeOf checks ≡ Done
+done-by-number checks ps e = go (either checks)
+  where
+    go : AllPassed checks ⊎ ((number place : ℕ) × Given checks number place) → outcomeOf checks ≡ Done
+    go (inl p) = passed-done checks p
+    go (inr (number, place, g)) =
+        let (c, other, f) = given-each (λ c. c .number ≢ 0) checks number place ps g in
+        absurd (other (f .named ∙ sym (ap numberOf (given-refused checks number place g)) ∙ e))
 
-  pub done-by-number : numberOf (outcomeOf checks) ≡ 0 → outcomeOf checks ≡ Done
-  done-by-number e = ⊎-elim (λ d. d) (λ (number, other, r). absurd (other (sym (ap numberOf r) ∙ e))) plain
-
-  pub refused-by-number : numberOf (outcomeOf checks) ≢ 0 → outcomeOf checks ≡ Refused (numberOf (outcomeOf checks)) 0
-  refused-by-number n = ⊎-elim (λ d. absurd (n (ap numberOf d))) (λ (number, other, r). r ∙ ap (λ (m : ℕ). Refused m 0) (sym (ap numberOf r))) plain
+-- where each line has one place, another number stands at the place 0
+pub refused-by-number : (checks : List Check) → Each (λ c. c .places ≡ 1) checks → numberOf (outcomeOf checks) ≢ 0
+    → outcomeOf checks ≡ Refused (numberOf (outcomeOf checks)) 0
+refused-by-number checks ps n = go (either checks)
+  where
+    go : AllPassed checks ⊎ ((number place : ℕ) × Given checks number place) → outcomeOf checks ≡ Refused (numberOf (outcomeOf checks)) 0
+    go (inl p) = absurd (n (ap numberOf (passed-done checks p)))
+    go (inr (number, place, g)) =
+        let (c, one, f) = given-each (λ c. c .places ≡ 1) checks number place ps g in
+        let r = given-refused checks number place g in
+        let start : place ≡ 0 = let l = f .within in omega arith in
+        r ∙ ap₂ (λ (m at : ℕ). Refused m at) (sym (ap numberOf r)) start
