@@ -1,16 +1,16 @@
 -- THE PATH BETWEEN TWO HOMES, by rows: the sum of its weights is the sum of the weights of the rows that part the two taxa. Document 01, "The tree".
 -- The walk up from a home comes by each row that holds the taxon, and meets the other walk at the first that holds the other taxon, else at the root.
 -- Assumes nothing.
-use Prim.Native.Nat.{ℕ, zero, suc, _+_, _-_, _*_, _/_, _%_, _≤_, _<_}
+use Prim.Native.Nat.{ℕ, zero, suc, _+_, _-_, _≤_, _<_}
 use native.Mathlib.Omega.{arith}
 use native.Mathlib.Decide.{decLt}
-use mathlib.Core.Path.{_≡_, refl, sym, _∙_, ap, ap₂}
+use mathlib.Core.Path.{_≡_, sym, _∙_, ap, ap₂}
 use mathlib.Core.Logic.{_⊎_, inl, inr}
 use mathlib.Core.Bool.{Bool, true, false, cond, true≢false}
 use mathlib.Core.List.{List}
 use lib.Dec.{eqb}
 use lib.ListN.{length, getD, drop, List·getD-map}
-use borrow.Author.Tests.{ltb-true, eqb-true, eqb-false, eq-eqb, ne-eqb}
+use borrow.Author.Tests.{ltb-true, eqb-true, eqb-false, eq-eqb}
 use Rattle.statement.specs.Cluster.{bit, In, Out}
 use Rattle.statement.specs.Rows.{Row, row, clusters, weights}
 use Rattle.statement.specs.Tree.{Tree, root, clusterAt, linkOf, homeOf, treeOf, up, walk, onWalk, rise, climb, pathSum}

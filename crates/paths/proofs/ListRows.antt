@@ -1,6 +1,5 @@
 -- A sum over the rows of a list, read one after the other in its arrays. Assumes nothing.
-use Prim.Native.Nat.{ℕ, suc, _+_, _<_}
-use native.Mathlib.Omega.{arith}
+use Prim.Native.Nat.{ℕ, _+_, _<_}
 use native.Mathlib.Numerals.{add-one}
 use mathlib.Core.Path.{_≡_, ap, subst}
 use lib.ListN.{getD, drop}

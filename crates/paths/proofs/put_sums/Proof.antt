@@ -1,7 +1,6 @@
 -- `paths::put_sums` meets its contract: each entry passed holds the sum of the rows that part its taxa. Assumes nothing.
 use Prim.Native.Nat.{ℕ, _*_, _-_, _/_, _%_, _≤_, _<_}
 use native.Mathlib.Omega.{arith}
-use native.Mathlib.Nat.{mul-le-mul}
 use mathlib.Core.Path.{_≡_, refl, _∙_}
 use lib.ListN.{length, getD, length-set}
 use lib.Seq.{getD-set-same, getD-set-other}
@@ -69,8 +68,8 @@ returns : tie.Need-returns Inv-loop μ-loop
 returns c =
     let l = c .before .loop in
     let s = c .before .before .before in
-    sums-filled (s .args .n) (rowsOf (s .args .s)) (l .out) (whole-rows weightLimit (s .args .n) (s .args .s) (s .pre .2) (s .pre .3) .clean)
-    (omega arith) (l .inv .1 ∙ s .pre .4) (λ d h. l .inv .2 d (omega arith))
+    let clean = whole-rows weightLimit (s .args .n) (s .args .s) (s .pre .2) (s .pre .3) .clean in
+    sums-filled (s .args .n) (rowsOf (s .args .s)) clean (l .out) (omega arith) (l .inv .1 ∙ s .pre .4) (λ d h. l .inv .2 d (omega arith))
 
 pub put-sums-spec : {M : Type 1} → statement M
 put-sums-spec =
