@@ -17,11 +17,9 @@ use Rattle.statement.proofs.Walks.{numbers-length, map-at, home-is}
 use Rattle.statement.proofs.Answer.{Clean}
 use Rattle.statement.proofs.Enlarged.{WellRows}
 use Rattle.statement.proofs.Run.{rows-few}
-use Rattle.statement.proofs.WellFormed.{well-formed-is}
-use Rattle.statement.proofs.Outputs.{output-accepted, done-filled}
+use Rattle.splits_list.proofs.Whole.{taken-rows, done-taken, done-filled}
 use Rattle.paths.specs.RowSum.{rowSum, PathSums}
 use Rattle.paths.proofs.Sums.{same-both-ways, none-to-itself, sum-small}
-use Rattle.paths.proofs.ListRows.{whole-rows}
 use Rattle.paths.proofs.ByRows.{path-by-rows}
 
 -- the two taxa of an entry
@@ -75,7 +73,6 @@ pub sums-written : (n : ℕ) (s : Splits) (out : List ℕ) → length (s .cluste
     → sumPaths n s out ≡ Done → PathSums n (rowsOf s) (pathsWritten n s out)
 unfolding sumPaths pathsWritten
 sums-written n s out hc hw done =
-    let ok = output-accepted n s (length out) (n * n) .0 done in
-    let rows = whole-rows weightLimit n s (well-formed-is weightLimit n s hc hw (ok .few) .0 (ok .well)) (ok .whole) in
-    subst (PathSums n (rowsOf s)) (sym (done-filled n s out (n * n) (pathSums n (treeOf n (rowsOf s))) done))
-    (sums-of-rows n (rowsOf s) (ok .two) (ok .few) rows)
+    let sums = pathSums n (treeOf n (rowsOf s)) in
+    let ok = done-taken n s out (n * n) sums done in
+    subst (PathSums n (rowsOf s)) (sym (done-filled n s out (n * n) sums done)) (sums-of-rows n (rowsOf s) (ok .two) (ok .few) (taken-rows n s hc hw ok))

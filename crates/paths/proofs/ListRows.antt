@@ -1,12 +1,10 @@
 -- A sum over the rows of a list, read one after the other in its arrays. Assumes nothing.
 use Prim.Native.Nat.{ℕ, _+_, _<_}
 use native.Mathlib.Numerals.{add-one}
-use mathlib.Core.Path.{_≡_, ap, subst}
+use mathlib.Core.Path.{_≡_, ap}
 use lib.ListN.{getD, drop}
 use Rattle.statement.specs.declared.Splits.{Splits}
-use Rattle.statement.specs.Rows.{Row, row, rowsOf, WellFormed}
-use Rattle.statement.proofs.Enlarged.{WellRows}
-use Rattle.statement.proofs.Allowance.{well-rows}
+use Rattle.statement.specs.Rows.{Row, row, rowsOf}
 use Rattle.splits_list.proofs.Laws.{Roomy, rows-at, rows-end}
 use Rattle.paths.specs.RowSum.{sumOver}
 
@@ -19,7 +17,3 @@ module _ (f : Row → ℕ) (s : Splits) (room : Roomy s) where
   pub no-row : sumOver f (drop (s .rows) (rowsOf s)) ≡ 0
   unfolding sumOver
   no-row = ap (sumOver f) (rows-end s room)
-
--- the rows of a well-formed list with k = n
-pub whole-rows : (most n : ℕ) (s : Splits) → WellFormed most n s → s .taxa ≡ n → WellRows most n (rowsOf s)
-whole-rows most n s w whole = subst (λ (k : ℕ). WellRows most k (rowsOf s)) whole (well-rows most n s w)

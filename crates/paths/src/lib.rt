@@ -55,17 +55,9 @@ pub fn sum_paths(n: usize, s: Splits, out: &mut [u64]) -> Outcome
     ensures { λ r. ⌜ r ≡ sumPaths n s (now (out .entry)) ⌝ }
     ensures { λ _. ⌜ now (out .exit) ≡ pathsWritten n s (now (out .entry)) ⌝ }
 {
-    if n < 2 {
-        return Outcome::Refused(1, 0);
-    }
-    if 64 < n {
-        return Outcome::Refused(1, 0);
-    }
-    if !splits_list::well_formed(2000000, n, s) {
-        return Outcome::Refused(8, 0);
-    }
-    if s.taxa != n {
-        return Outcome::Refused(8, 0);
+    let refusal = splits_list::whole_refusal(n, s);
+    if refusal != 0 {
+        return Outcome::Refused(refusal, 0);
     }
     if out.len() != n * n {
         return Outcome::Refused(7, 0);

@@ -1,21 +1,16 @@
--- The calls that take a list with k = n and a lent output slice: each way out of their checks, what an accepted call is given, and what such a call
--- says and leaves in the slice. Assumes nothing.
-use Prim.Native.Nat.{ℕ, _≤_, _<_}
+-- The calls that take a list with k = n and a lent output slice: each way out of their checks, and what an accepted call is given. Assumes nothing.
+use Prim.Native.Nat.{ℕ, _≤_}
 use native.Mathlib.Omega.{arith}
-use mathlib.Core.Path.{_≡_, refl, sym, ap}
+use mathlib.Core.Path.{_≡_, refl, ap}
 use mathlib.Core.Logic.{_↔_, _≢_, inl, inr, Iff·trans}
 use mathlib.Core.Bool.{Bool, true, false, not, _&&_, _||_}
-use mathlib.Core.List.{List}
 use lib.Dec.{ltb, eqb}
-use lib.ListN.{length}
-use borrow.Author.Tests.{lt-ltb, le-ltb, ne-eqb}
+use borrow.Author.Tests.{ne-eqb}
 use Rattle.statement.specs.declared.Splits.{Splits}
-use Rattle.statement.specs.declared.Outcome.{Outcome}
 use Rattle.statement.specs.declared.Outcome.the-variants.{Done, Refused}
 use Rattle.statement.specs.Matrix.{weightLimit}
 use Rattle.statement.specs.Rows.{wellFormed}
 use Rattle.statement.specs.Refusals.{outcomeOf, single, Passed, Fails, AllPassed, wholeListOff, outputOff, outputChecks}
-use Rattle.statement.specs.Calls.{unlessRefused}
 use Rattle.statement.proofs.Tests.{same-is, both-is, not-is}
 use Rattle.statement.proofs.Refused.{given-refused, accepted-exactly}
 use Rattle.statement.proofs.Accepted.{single-passed, taxa-passed}
@@ -66,41 +61,3 @@ module _ (n : ℕ) (s : Splits) (len wanted : ℕ) where
 
       back : AcceptedOutput n s len wanted → AllPassed (outputChecks n s len wanted)
       back a = (taxa-passed n .1 (a .two, a .few), (list-passed .1 (a .well, a .whole), (size-passed .1 (a .size), tt)))
-
--- WHAT SUCH A CALL SAYS AND LEAVES, a law for each way out: a refusal leaves the slice as it came, an accepted call fills it
-module _ (n : ℕ) (s : Splits) (out : List ℕ) (wanted : ℕ) (filled : List ℕ) where
-  abbrev outcome : Outcome
-  outcome = outcomeOf (outputChecks n s (length out) wanted)
-
-  abbrev Says : Outcome → List ℕ → Type 0
-  Says r o = (r ≡ outcome) × (o ≡ unlessRefused outcome out filled)
-
-  refused : (number : ℕ) → outcome ≡ Refused number 0 → Says (Refused number 0) out
-  refused number e = (sym e, rw e)
-
-  pub taxa-below : n < 2 → Says (Refused 1 0) out
-  taxa-below l = refused 1 (taxa-refused n s (length out) wanted (rw (lt-ltb n 2 l)))
-
-  module _ (two : 2 ≤ n) where
-    pub taxa-above : 64 < n → Says (Refused 1 0) out
-    taxa-above l = refused 1 (taxa-refused n s (length out) wanted (rw (le-ltb n 2 two, lt-ltb 64 n l)))
-
-    module _ (few : n ≤ 64) where
-      pub list-off : wellFormed weightLimit n s ≡ false → Says (Refused 8 0) out
-      list-off e = refused 8 (list-refused n s (length out) wanted two few (rw e))
-
-      module _ (well : wellFormed weightLimit n s ≡ true) where
-        pub other-taxa : s .taxa ≢ n → Says (Refused 8 0) out
-        other-taxa e = refused 8 (list-refused n s (length out) wanted two few (rw (well, ne-eqb (s .taxa) n e)))
-
-        pub size-off : s .taxa ≡ n → length out ≢ wanted → Says (Refused 7 0) out
-        size-off whole e = refused 7 (size-refused n s (length out) wanted two few well whole e)
-
-        pub accepted : s .taxa ≡ n → length out ≡ wanted → (o : List ℕ) → o ≡ filled → Says Done o
-        accepted whole size o e =
-            let done = output-accepted n s (length out) wanted .1 (record { two = two; few = few; well = well; whole = whole; size = size }) in
-            (sym done, rw done e)
-
-  -- an outcome of "done" says that it was filled
-  pub done-filled : outcome ≡ Done → unlessRefused outcome out filled ≡ filled
-  done-filled done = rw done

@@ -8,8 +8,8 @@ use borrow.Author.Needs.{needs}
 use borrow.Author.Count.{below-none, below-more}
 use Rattle.statement.specs.Matrix.{weightLimit}
 use Rattle.statement.specs.Rows.{rowsOf}
+use Rattle.splits_list.proofs.Whole.{whole-rows}
 use Rattle.paths.specs.RowSum.{rowSum}
-use Rattle.paths.proofs.ListRows.{whole-rows}
 use Rattle.paths.proofs.Entries.{taxa-of, sums-filled}
 use Rattle.paths.proofs.put_sums.Statement.{statement}
 use Rattle.paths.proofs.put_sums.Tie as tie
