@@ -63,14 +63,14 @@ same-both-ways rows i j = sum-same (parting i j) (parting j i) (λ r. at r (eqb 
 pub none-to-itself : (rows : List Row) (i : ℕ) → rowSum rows i i ≡ 0
 none-to-itself rows i = sum-none (parting i i) (λ r. rw (eq-eqb (bit (r .cluster) i) (bit (r .cluster) i) refl)) rows
 
-pub parting-most : (most i j : ℕ) (r : Row) → r .weight ≤ most → parting i j r ≤ most
+parting-most : (most i j : ℕ) (r : Row) → r .weight ≤ most → parting i j r ≤ most
 parting-most most i j r l = at (eqb (bit (r .cluster) i) (bit (r .cluster) j))
   where
     at : (b : Bool) → cond b 0 (r .weight) ≤ most
     at true = omega arith
     at false = omega arith
 
-pub sum-most : (most : ℕ) (rows : List Row) (i j : ℕ) → ((w : ℕ) → Mem w (weights rows) → w ≤ most) → rowSum rows i j ≤ length rows * most
+sum-most : (most : ℕ) (rows : List Row) (i j : ℕ) → ((w : ℕ) → Mem w (weights rows) → w ≤ most) → rowSum rows i j ≤ length rows * most
 unfolding sumOver
 sum-most most [] i j light = omega arith
 sum-most most (r ∷ rs) i j light =

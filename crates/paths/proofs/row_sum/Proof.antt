@@ -39,6 +39,7 @@ element-copy-out-parting-weight-2 c = search needs
 parting-weight-requires : tie.Need-parting-weight-requires Inv-loop μ-loop
 parting-weight-requires c κs = search needs
 
+-- with one more row summed
 one-more : (c : tie.After-parting-weight Inv-loop μ-loop) → let l = c .before .before .before .before in let a = l .before .args in
     l .loop .sum + c .parting-weight .result + sumOver (parting (a .i) (a .j)) (drop (l .loop .k + 1) (rowsOf (a .t1))) ≡ rowSum (rowsOf (a .t1)) (a .i) (a .j)
 one-more c =
