@@ -21,7 +21,7 @@ use Rattle.statement.specs.Tree.{treeOf, rowsOfTree, pathSums}
 use Rattle.statement.specs.Bytes.{treeBody, treeIn, treeLength}
 use Rattle.statement.specs.Refusals.{Check, outcomeOf, listOff, matrixChecks, tableChecks, treeChecks, outputChecks}
 use Rattle.statement.specs.Record.{recordChecks, writingChecks, recordOf}
-use Rattle.statement.specs.Calls.{unlessRefused, emptyList, refusedRun, refusedGrowth, refusedReading, runMatrix, runTable, growMatrix, growTable, writeTree, treeWritten, readTree, sumPaths, pathsWritten, findRecord, writeRecord, recordWritten}
+use Rattle.statement.specs.Calls.{unlessRefused, refusedRun, refusedGrowth, refusedReading, runMatrix, runTable, growMatrix, growTable, writeTree, treeWritten, readTree, sumPaths, pathsWritten, findRecord, writeRecord, recordWritten}
 use Rattle.statement.proofs.Refused.{refused-exactly}
 use Rattle.claims.specs.Demands.{ExactlyWhen, RefusedIs, Unaltered}
 

@@ -1,19 +1,15 @@
 -- DEMAND 3, for every accepted matrix and every accepted table. Assumes nothing.
-use Prim.Native.Nat.{ℕ, zero, suc, _+_, _*_, _-_, _^_, _≤_, _<_}
+use Prim.Native.Nat.{ℕ, _≤_}
 use native.Mathlib.Omega.{arith}
 use mathlib.Core.Path.{_≡_, refl, sym, _∙_, ap, subst}
-use mathlib.Core.Logic.{_≢_, _↔_, _⊎_, inl, inr}
-use mathlib.Core.Bool.{Bool, true, false}
+use mathlib.Core.Logic.{_≢_, _↔_}
 use mathlib.Core.List.{List}
-use lib.ListN.{length}
-use Rattle.statement.specs.declared.Growth.{Growth}
-use Rattle.statement.specs.declared.Outcome.the-variants.{Done}
 use Rattle.statement.specs.Matrix.{distance, score, weightLimit, AcceptedMatrix}
-use Rattle.statement.specs.Table.{stands, tableWeight, AcceptedTable}
-use Rattle.statement.specs.Rows.{Row, clusters, Listed, rowsOf, listOf}
-use Rattle.statement.specs.Growing.{matrixTrial, tableTrial, rowsAt, trialsAt, wholeRun}
+use Rattle.statement.specs.Table.{tableWeight, AcceptedTable}
+use Rattle.statement.specs.Rows.{Listed, rowsOf, listOf}
+use Rattle.statement.specs.Growing.{matrixTrial, tableTrial, rowsAt, wholeRun}
 use Rattle.statement.specs.Calls.{runMatrix, runTable}
-use Rattle.statement.proofs.Rule.{Rule, Distinct, Laws, Ok, Supported}
+use Rattle.statement.proofs.Rule.{Rule, Distinct, Ok, Supported}
 use Rattle.statement.proofs.Matrix.{above-zero}
 use Rattle.statement.proofs.Lists.{rows-of-list}
 use Rattle.statement.proofs.Enlarged.{Plain, WellRows, FullRows}

@@ -1,13 +1,13 @@
 -- GROWTH, over the replies: one taxon more keeps the growth rule for any well-formed list, also one carried from another source; an allowance of 247
 -- always adds a taxon; growing twice is growing once. Assumes nothing.
-use Prim.Native.Nat.{ℕ, suc, _+_, _-_, _≤_, _<_}
+use Prim.Native.Nat.{ℕ, suc, _<_}
 use native.Mathlib.Omega.{arith}
-use mathlib.Core.Path.{_≡_, refl, sym, _∙_, ap, subst}
+use mathlib.Core.Path.{refl}
 use mathlib.Core.List.{List}
 use Rattle.statement.specs.declared.Splits.{Splits}
 use Rattle.statement.specs.Matrix.{distance, weightLimit, AcceptedMatrix}
-use Rattle.statement.specs.Table.{tableWeight, AcceptedTable}
-use Rattle.statement.specs.Rows.{Row, rowsOf, listOf, WellFormed}
+use Rattle.statement.specs.Table.{tableWeight}
+use Rattle.statement.specs.Rows.{rowsOf, listOf, WellFormed}
 use Rattle.statement.specs.Growing.{matrixTrial, tableTrial, enlarged, larger, MatrixGrowth, TableGrowth, MatrixAnswer, TableAnswer}
 use Rattle.statement.proofs.Lists.{rows-of-list}
 use Rattle.statement.proofs.Enlarged.{enlarged-full}

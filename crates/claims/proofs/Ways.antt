@@ -1,12 +1,12 @@
 -- Ways to part the trees, and the splits that a rule supports: the same thing said twice. Assumes nothing.
-use Prim.Native.Nat.{ℕ, zero, suc, _+_, _^_, _≤_, _<_}
+use Prim.Native.Nat.{ℕ, zero, suc, _≤_, _<_}
 use native.Mathlib.Omega.{arith}
-use mathlib.Core.Path.{_≡_, refl, sym, _∙_, ap, subst}
+use mathlib.Core.Path.{_≡_, refl, sym, _∙_, ap}
 use mathlib.Core.Logic.{_≢_, _↔_, _⊎_, inl, inr}
 use mathlib.Core.Bool.{Bool, true, false, cond, not, Bool·beq, true≢false}
 use lib.Dec.{eqb}
-use borrow.Author.Tests.{eqb-true, eqb-false, eq-eqb, ne-eqb}
-use Rattle.statement.specs.Cluster.{bit, In, Out, groupOf, Split}
+use borrow.Author.Tests.{eq-eqb, ne-eqb}
+use Rattle.statement.specs.Cluster.{bit, In, Out, Split}
 use Rattle.statement.proofs.Rule.{Rule, Laws, Ok, Supported}
 use Rattle.statement.proofs.Bits.{lt-bit, bit-ext, bit-none, zero-or-one}
 use Rattle.statement.proofs.Grow.{ok-flip}

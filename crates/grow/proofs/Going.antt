@@ -3,7 +3,6 @@ use Prim.Native.Nat.{ℕ, suc, _+_, _-_, _≤_, _<_}
 use native.Mathlib.Omega.{arith}
 use mathlib.Core.Path.{_≡_, refl, sym, _∙_, ap, ap₂, subst}
 use Rattle.statement.specs.declared.Splits.{Splits}
-use Rattle.statement.specs.declared.Growth.{Growth}
 use Rattle.statement.specs.declared.Outcome.the-variants.{Done, Short}
 use Rattle.statement.specs.Rows.{listOf, WellFormed}
 use Rattle.statement.specs.Growing.{larger, cost, grown}

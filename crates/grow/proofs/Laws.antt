@@ -1,16 +1,16 @@
 -- Rows kept and pushed. Assumes nothing.
-use Prim.Native.Nat.{ℕ, zero, suc, _+_, _^_, _≤_, _<_}
+use Prim.Native.Nat.{ℕ, suc, _+_, _≤_, _<_}
 use native.Mathlib.Omega.{arith}
 use native.Mathlib.Numerals.{add-one}
 use mathlib.Core.Path.{_≡_, refl, sym, _∙_, ap, ap₂}
-use mathlib.Core.Bool.{Bool, true, false, cond}
-use mathlib.Core.List.{List, [], _∷_, _++_, map, append-assoc, append-nil}
+use mathlib.Core.Bool.{Bool, true, false}
+use mathlib.Core.List.{List, [], _∷_, _++_, append-assoc, append-nil}
 use lib.Dec.{ltb}
 use lib.ListN.{length, drop, getD, length-append}
 use borrow.Author.Tests.{lt-ltb, le-ltb}
 use Rattle.statement.specs.declared.Splits.{Splits}
 use Rattle.statement.specs.Rows.{Row, row, rowsOf, listOf}
-use Rattle.statement.specs.Growing.{consIf, kept, candidates, enlarged}
+use Rattle.statement.specs.Growing.{consIf, kept}
 use Rattle.splits_list.specs.Pushed.{pushed}
 use Rattle.splits_list.proofs.Laws.{Roomy, pushed-listOf, rows-at, rows-end}
 use Rattle.grow.specs.Appended.{appended, raised}

@@ -1,5 +1,7 @@
 // Small pseudo-random inputs for tests: matrices of up to 7 taxa in five shapes, and tables made from such matrices by the four-point rule.
+ghost use mathlib.Core.Path.{_≡_};
 ghost use Prim.Native.Nat.{_<_, _≤_};
+ghost use lib.ListN.{take};
 
 // The next number of a sequence that looks random, below 2,147,483,647.
 fn next(seed: u64) -> u64
@@ -195,4 +197,49 @@ pub fn drawn_table(seed: u64) -> [u8; 35] {
         p += 1;
     }
     bytes
+}
+
+// The first m entries, and the first m bytes; all where there are fewer.
+pub fn first_entries<'a>(d: &'a [u32], m: usize) -> &'a [u32]
+    ensures { λ r. ⌜ now r ≡ take m (now (d .entry)) ⌝ }
+{
+    if m > d.len() {
+        return d;
+    }
+    &d[..m]
+}
+
+pub fn first_bytes<'a>(bytes: &'a [u8], m: usize) -> &'a [u8]
+    ensures { λ r. ⌜ now r ≡ take m (now (bytes .entry)) ⌝ }
+{
+    if m > bytes.len() {
+        return bytes;
+    }
+    &bytes[..m]
+}
+
+// How many entries a matrix of n taxa has, and how many bytes a table.
+pub fn entry_count(n: usize) -> usize
+    ensures { λ r. ⌜ r ≤ 49 ⌝ }
+{
+    match n {
+        2 => 4,
+        3 => 9,
+        4 => 16,
+        5 => 25,
+        6 => 36,
+        _ => 49,
+    }
+}
+
+pub fn byte_count(n: usize) -> usize
+    ensures { λ r. ⌜ r ≤ 35 ⌝ }
+{
+    match n {
+        4 => 1,
+        5 => 5,
+        6 => 15,
+        7 => 35,
+        _ => 0,
+    }
 }

@@ -1,17 +1,15 @@
 -- GROWTH WITH AN ALLOWANCE, from any well-formed list: the list stays well-formed, an allowance of 247 adds a taxon where one remains, and
 -- growing twice is growing once. Assumes nothing.
-use Prim.Native.Nat.{ℕ, zero, suc, _+_, _*_, _-_, _^_, _≤_, _<_}
+use Prim.Native.Nat.{ℕ, zero, suc, _+_, _-_, _≤_, _<_}
 use native.Mathlib.Omega.{arith}
 use native.Mathlib.Decide.{decLe}
 use mathlib.Core.Path.{_≡_, refl, sym, _∙_, ap, ap₂, subst}
 use mathlib.Core.Bool.{Bool, true, false, cond}
-use mathlib.Core.List.{List, []}
+use mathlib.Core.List.{List}
 use lib.Dec.{leb}
-use lib.ListN.{length}
-use borrow.Author.Tests.{leb-true, leb-false, le-leb, lt-leb}
 use Rattle.statement.specs.declared.Splits.{Splits}
 use Rattle.statement.specs.declared.Growth.{Growth}
-use Rattle.statement.specs.declared.Outcome.the-variants.{Done, Short}
+use Rattle.statement.specs.declared.Outcome.the-variants.{Short}
 use Rattle.statement.specs.Rows.{Row, rowsOf, listOf, WellFormed}
 use Rattle.statement.specs.Growing.{enlarged, larger, cost, grown}
 use Rattle.statement.proofs.Rule.{Rule}

@@ -1,7 +1,6 @@
 -- Ascending lists of clusters, the full answer of a rule, and what is kept of the candidates, over clusters alone. Assumes nothing.
-use Prim.Native.Nat.{ℕ, zero, suc, _+_, _^_, _≤_, _<_}
-use mathlib.Core.Path.{_≡_}
-use mathlib.Core.Logic.{_⊎_, _↔_}
+use Prim.Native.Nat.{ℕ, _+_, _^_}
+use mathlib.Core.Logic.{_↔_}
 use mathlib.Core.Bool.{Bool, cond}
 use mathlib.Core.List.{List, [], _∷_, _++_, map}
 use Rattle.statement.specs.Cluster.{Out, Conflict}

@@ -1,11 +1,11 @@
 -- No two supported splits conflict. Assumes nothing.
-use Prim.Native.Nat.{ℕ, zero, suc, _+_, _%_, _^_, _≤_, _<_}
+use Prim.Native.Nat.{ℕ, suc, _%_, _^_, _≤_, _<_}
 use native.Mathlib.Omega.{arith}
 use native.Mathlib.Decide.{decLt}
-use mathlib.Core.Path.{_≡_, refl, sym, _∙_, ap}
+use mathlib.Core.Path.{_≡_, sym, _∙_, ap}
 use mathlib.Core.Logic.{_≢_}
 use Rattle.statement.specs.Cluster.{bit, In, Out, Conflict}
-use Rattle.statement.proofs.Rule.{Rule, Laws, Ok, Distinct, Fours, New, Supported}
+use Rattle.statement.proofs.Rule.{Rule, Laws, Ok, Distinct, Fours, New}
 use Rattle.statement.proofs.Bits.{bit-mod, bit-none}
 use Rattle.statement.proofs.Grow.{new-at}
 

@@ -1,23 +1,20 @@
 -- ONE TAXON MORE, over rows: the enlarged list holds exactly the candidates whose fours with the newcomer are all above zero, at the lesser of old
 -- weight and new scores; it is well-formed again; and the full answer for k taxa grows to that for k + 1. Assumes nothing.
-use Prim.Native.Nat.{ℕ, zero, suc, _+_, _*_, _-_, _%_, _^_, _≤_, _<_}
+use Prim.Native.Nat.{ℕ, suc, _+_, _%_, _^_, _≤_, _<_}
 use native.Mathlib.Omega.{arith}
 use native.Mathlib.Nat.{mod-self, le-refl}
 use native.Mathlib.Decide.{ℕ-discrete}
-use mathlib.Core.Path.{_≡_, refl, sym, _∙_, ap, ap₂, subst}
-use mathlib.Core.Logic.{_⊎_, inl, inr, _↔_, _≢_}
+use mathlib.Core.Path.{_≡_, refl, sym, _∙_, ap, subst}
+use mathlib.Core.Logic.{_⊎_, inl, inr, _↔_}
 use mathlib.Core.Bool.{Bool, true, false, cond}
 use mathlib.Core.List.{List, [], _∷_, _++_, map}
 use lib.Dec.{T, ltb, eqb, ltb→lt, lt→ltb}
-use lib.Pow.{pow-pos}
-use lib.ListN.{length}
 use borrow.Author.Tests.{eq-eqb, ne-eqb, eqb-true, eqb-false}
-use Rattle.statement.specs.Cluster.{Out, Split}
 use Rattle.statement.specs.Rows.{Row, row, clusters, weights, Ascending, Mem, Listed, weightIn}
 use Rattle.statement.specs.Growing.{candidates, consIf, kept, enlarged}
-use Rattle.statement.proofs.Rule.{Rule, Laws, New, Kept, Weight, Trial, Value, Supported}
+use Rattle.statement.proofs.Rule.{Rule, Laws, New, Weight, Trial, Value}
 use Rattle.statement.proofs.Answer.{Clean, Full, Weighed, keepIf, extensions}
-use Rattle.statement.proofs.Listed.{asc-mem, asc-lower, mem-keep, mem-keep-of}
+use Rattle.statement.proofs.Listed.{asc-mem, mem-keep, mem-keep-of}
 use Rattle.statement.proofs.Grow.{mod-cases}
 use Rattle.statement.proofs.Full.{candidate-of, extensions-up, weighed-grow, well-grow, parents-rows}
 

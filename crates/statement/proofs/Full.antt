@@ -1,20 +1,20 @@
 -- The full answer for k taxa grows to that for k + 1, and is the only one. Assumes nothing.
-use Prim.Native.Nat.{ℕ, zero, suc, _+_, _*_, _%_, _^_, _≤_, _<_}
+use Prim.Native.Nat.{ℕ, suc, _+_, _*_, _%_, _^_, _≤_, _<_}
 use native.Mathlib.Omega.{arith}
 use native.Mathlib.Nat.{add-mod-left, mod-eq-of-lt, mod-self}
-use mathlib.Core.Path.{_≡_, refl, sym, _∙_, ap, subst}
+use mathlib.Core.Path.{_≡_, sym, _∙_, ap, subst}
 use mathlib.Core.Logic.{_⊎_, inl, inr, _↔_}
 use mathlib.Core.Bool.{Bool, false}
-use mathlib.Core.List.{List, [], _∷_, _++_, map}
+use mathlib.Core.List.{List, [], _∷_, map}
 use lib.Dec.{T, ltb, ltb→lt, lt→ltb}
 use lib.Pow.{pow-pos}
 use lib.ListN.{length, getD}
-use Rattle.statement.specs.Cluster.{bit, In, Out, Split, Conflict}
+use Rattle.statement.specs.Cluster.{bit, Out, Split, Conflict}
 use Rattle.statement.proofs.Rule.{Rule, Laws, Fours, New, Supported, Weight, Kept, Parent, Value}
 use Rattle.statement.specs.Rows.{Ascending, Mem}
 use Rattle.statement.proofs.Answer.{Clean, Full, Weighed, keepIf, extensions}
-use Rattle.statement.proofs.Bits.{bit-zero, bit-mod, bit-plus}
-use Rattle.statement.proofs.Grow.{Grown, grow, mod-cases, alone-low}
+use Rattle.statement.proofs.Bits.{bit-zero, bit-mod}
+use Rattle.statement.proofs.Grow.{grow, mod-cases, alone-low}
 use Rattle.statement.proofs.Weigh.{value-weight, value-kept, weight-supports}
 use Rattle.statement.proofs.Clash.{step-mod, no-conflict, empty-left, empty-right}
 use Rattle.statement.proofs.Laminar.{bound}

@@ -1,24 +1,21 @@
 -- THE GROWTH RULE in the document's words, for a matrix and for a table: the first promise of growth, for any well-formed list, also one carried from
 -- another source. Assumes nothing.
-use Prim.Native.Nat.{ℕ, zero, suc, _+_, _%_, _^_, _≤_, _<_}
+use Prim.Native.Nat.{ℕ, suc, _^_, _≤_, _<_}
 use native.Mathlib.Omega.{arith}
 use native.Mathlib.Nat.{le-refl}
-use native.Mathlib.Decide.{ℕ-discrete, decLt}
+use native.Mathlib.Decide.{ℕ-discrete}
 use mathlib.Core.Path.{_≡_, refl, sym, _∙_, ap, subst}
 use mathlib.Core.Logic.{_≢_, _⊎_, inl, inr, _↔_}
-use mathlib.Core.Bool.{true}
 use mathlib.Core.List.{List}
 use lib.Pow.{pow-pos}
-use lib.IntN.{ℤ, pos}
-use lib.Signed.{_≤ℤ_, _<ℤ_}
+use lib.IntN.{pos}
 use Rattle.statement.specs.Cluster.{bit, In, Out, Across}
 use Rattle.statement.specs.Matrix.{distance, weightLimit, AcceptedMatrix, score}
-use Rattle.statement.specs.Table.{stands, tableWeight}
-use Rattle.statement.specs.Rows.{Row, clusters, Mem, Listed, weightIn}
-use Rattle.statement.specs.Growing.{matrixTrial, tableTrial, candidates, enlarged, Includes, GrowthRule, NewWeight, MatrixGrowth, TableGrowth}
-use Rattle.statement.proofs.Rule.{Rule, Laws, Ok, New, Trial}
-use Rattle.statement.proofs.Instances.{matrixRule}
-use Rattle.statement.proofs.Bits.{zero-or-one, bit-lt, bit-top, bit-none}
+use Rattle.statement.specs.Table.{tableWeight}
+use Rattle.statement.specs.Rows.{Row, Mem, Listed, weightIn}
+use Rattle.statement.specs.Growing.{matrixTrial, tableTrial, candidates, enlarged, Includes, NewWeight, MatrixGrowth, TableGrowth}
+use Rattle.statement.proofs.Rule.{Rule, Ok, New, Trial}
+use Rattle.statement.proofs.Bits.{zero-or-one, bit-lt, bit-top}
 use Rattle.statement.proofs.Grow.{of-new, new-of, alone-low}
 use Rattle.statement.proofs.Matrix.{above-zero, of-score}
 use Rattle.statement.proofs.Parts.{Parted}

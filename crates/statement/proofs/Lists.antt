@@ -1,11 +1,10 @@
 -- A list that covers k taxa with given rows has these rows. Assumes nothing.
-use Prim.Native.Nat.{ℕ, zero, suc, _+_, _-_, _≤_, _<_}
-use native.Mathlib.Omega.{arith}
-use mathlib.Core.Path.{_≡_, refl, sym, _∙_, ap, ap₂}
-use mathlib.Core.List.{List, [], _∷_, _++_, map}
-use lib.ListN.{length, take, replicate, length-map}
+use Prim.Native.Nat.{ℕ, _-_}
+use mathlib.Core.Path.{_≡_, refl, _∙_, ap, ap₂}
+use mathlib.Core.List.{List, [], _∷_}
+use lib.ListN.{length, replicate, length-map}
 use lib.Seq.{take-at}
-use Rattle.statement.specs.Rows.{Row, row, clusters, weights, zip, rowsOf, filled, listOf}
+use Rattle.statement.specs.Rows.{Row, clusters, weights, zip, rowsOf, filled, listOf}
 
 zip-parts : (rows : List Row) → zip (clusters rows) (weights rows) ≡ rows
 zip-parts [] = refl

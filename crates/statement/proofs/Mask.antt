@@ -1,10 +1,10 @@
 -- Conflict by one bitwise and, as a program tests it. Assumes nothing.
-use Prim.Native.Nat.{ℕ, zero, suc, _+_, _*_, _/_, _%_, _^_, _≤_, _<_, min}
+use Prim.Native.Nat.{ℕ, _+_, _*_, _/_, _%_, _^_, _<_, min}
 use native.Mathlib.Omega.{arith}
-use mathlib.Core.Path.{_≡_, refl, sym, _∙_, ap}
+use mathlib.Core.Path.{_≡_, _∙_, ap}
 use mathlib.Core.Logic.{_≢_, _↔_}
 use lib.Bits.{bitAnd, and-shr, and-step, and-le-l, and-le-r, and-mask}
-use Rattle.statement.specs.Cluster.{bit, In, Out, Split, Conflict}
+use Rattle.statement.specs.Cluster.{bit, Split, Conflict}
 use Rattle.statement.proofs.Bits.{bit-lt, bit-none, lt-bit}
 
 -- (c >> i) & 1

@@ -1,5 +1,5 @@
 -- The matrix rule keeps the laws of a rule. Assumes nothing.
-use Prim.Native.Nat.{ℕ, zero, suc, _+_, _-_, _≤_, _<_, min}
+use Prim.Native.Nat.{ℕ, suc, _+_, _-_, _≤_, _<_, min}
 use native.Mathlib.Omega.{arith}
 use mathlib.Core.Path.{_≡_, refl, ap₂}
 use mathlib.Core.Bool.{Bool, true, false, cond}
@@ -9,7 +9,7 @@ use lib.Signed.{_≤ℤ_, _<ℤ_, leZ}
 use mathlib.Core.Logic.{_↔_}
 use borrow.Author.Tests.{ltb-true, ltb-false}
 use Rattle.statement.specs.Matrix.{score}
-use Rattle.statement.proofs.Rule.{Rule, Laws}
+use Rattle.statement.proofs.Rule.{Laws}
 use Rattle.statement.proofs.Instances.{matrixRule}
 
 -- an order on a difference of naturals is one in ℕ

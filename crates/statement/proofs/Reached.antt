@@ -1,19 +1,18 @@
 -- The literal wording: a weight above zero is the score of an asked four, or the cap; and the lowest such four is there. Assumes nothing.
-use Prim.Native.Nat.{ℕ, zero, suc, _+_, _*_, _/_, _%_, _^_, _≤_, _<_}
+use Prim.Native.Nat.{ℕ, zero, suc, _≤_, _<_}
 use native.Mathlib.Omega.{arith}
-use native.Mathlib.Decide.{decLt, decLe, ℕ-discrete}
-use native.Mathlib.Nat.{le-antisymm, le-refl}
-use mathlib.Core.Path.{_≡_, refl, sym, _∙_, ap, subst}
-use mathlib.Core.Logic.{_≢_, _⊎_, inl, inr, _↔_}
+use native.Mathlib.Decide.{decLt, ℕ-discrete}
+use native.Mathlib.Nat.{le-refl}
+use mathlib.Core.Path.{_≡_, refl, sym, ap, subst}
+use mathlib.Core.Logic.{_⊎_, inl, inr}
 use mathlib.Core.Bool.{Bool, true, false}
-use lib.Dec.{T, leb, leb→le, le→leb}
+use lib.Dec.{T, leb→le, le→leb}
 use lib.IntN.{ℤ, pos, negsuc}
 use lib.Signed.{_≤ℤ_, leZ}
-use Rattle.statement.specs.Cluster.{bit, In, Out, Split}
-use Rattle.statement.proofs.Rule.{Rule, Laws, Ok, Fours, New, Carried, Weight, Trial, Reached, Bare, WeightOf, Caps}
+use Rattle.statement.specs.Cluster.{bit, In, Out}
+use Rattle.statement.proofs.Rule.{Rule, Ok, Fours, New, Weight, Trial, Reached, Bare, WeightOf, Caps}
 use Rattle.statement.proofs.Parts.{Parted}
 use Rattle.statement.proofs.Trial.{Anchored, anchored-new}
-use Rattle.statement.proofs.Bits.{zero-or-one}
 
 -- all below n, or one that is not
 pub search-below : {P Q : ℕ → Type 0} → ((i : ℕ) → P i ⊎ Q i) → (n : ℕ) → ((i : ℕ) → i < n → P i) ⊎ ((i : ℕ) × (i < n) × Q i)

@@ -1,19 +1,15 @@
 -- THE WHOLE RUN of a rule: it ends with the full answer, within 2n² - 7n + 7 trials, and growth from the empty list is the same run. Assumes nothing.
-use Prim.Native.Nat.{ℕ, zero, suc, _+_, _*_, _-_, _^_, _≤_, _<_}
+use Prim.Native.Nat.{ℕ, zero, suc, _+_, _*_, _-_, _≤_, _<_}
 use native.Mathlib.Omega.{arith}
-use mathlib.Core.Path.{_≡_, refl, sym, _∙_, ap, ap₂, subst}
-use mathlib.Core.Bool.{cond}
-use mathlib.Core.List.{List, [], _∷_, map}
-use lib.Dec.{leb}
+use mathlib.Core.Path.{_≡_, refl, _∙_, ap, ap₂}
+use mathlib.Core.List.{List, []}
 use lib.ListN.{length, length-map}
 use borrow.Author.Tests.{le-leb, lt-leb}
 use Rattle.statement.specs.declared.Splits.{Splits}
-use Rattle.statement.specs.declared.Growth.{Growth}
 use Rattle.statement.specs.declared.Outcome.the-variants.{Done, Short}
-use Rattle.statement.specs.Rows.{Row, clusters, weights, rowsOf, listOf, WellFormed}
+use Rattle.statement.specs.Rows.{Row, clusters, weights, rowsOf, listOf}
 use Rattle.statement.specs.Growing.{enlarged, larger, cost, grown, rowsAt, trialsAt, wholeRun}
-use Rattle.statement.proofs.Rule.{Rule, Laws}
-use Rattle.statement.proofs.Answer.{Clean}
+use Rattle.statement.proofs.Rule.{Rule}
 use Rattle.statement.proofs.Full.{full-one, well-length}
 use Rattle.statement.proofs.Lists.{rows-of-list}
 use Rattle.statement.proofs.Enlarged.{Plain, WellRows, FullRows, enlarged-well, enlarged-full}

@@ -1,13 +1,13 @@
 -- Scores of an accepted matrix: at most one of the three pairings of four taxa is above zero, equal least sums give none, and the range. Assumes nothing.
 use Prim.Native.Nat.{ℕ, suc, _+_, _-_, _≤_, _<_, min}
 use native.Mathlib.Omega.{arith}
-use mathlib.Core.Path.{_≡_, refl, sym, _∙_, ap}
+use mathlib.Core.Path.{_≡_, refl}
 use mathlib.Core.Bool.{Bool, true, false, cond}
 use mathlib.Core.List.{List}
-use lib.Dec.{T, ltb, leb→le, le→leb}
-use lib.IntN.{ℤ, pos, negsuc, negℤ, subℕ}
-use lib.Signed.{_≤ℤ_, _<ℤ_, leZ}
-use borrow.Author.Tests.{ltb-true, ltb-false}
+use lib.Dec.{ltb, le→leb}
+use lib.IntN.{pos, negsuc, negℤ, subℕ}
+use lib.Signed.{_≤ℤ_, _<ℤ_}
+use borrow.Author.Tests.{ltb-true}
 use Rattle.statement.specs.Matrix.{distance, weightLimit, AcceptedMatrix, score}
 use Rattle.statement.proofs.Matrix.{of-score, above-zero, Least}
 

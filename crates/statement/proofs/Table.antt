@@ -1,18 +1,18 @@
 -- The table rule keeps the laws of a rule. Assumes nothing.
-use Prim.Native.Nat.{ℕ, zero, suc, _+_, _%_, _^_, _≤_, _<_, min}
+use Prim.Native.Nat.{ℕ, suc, _%_, _^_, _≤_, _<_}
 use native.Mathlib.Omega.{arith}
 use native.Mathlib.Decide.{decLt, ℕ-discrete}
 use mathlib.Core.Path.{_≡_, refl, sym, _∙_, ap, ap₂, fun-ext, subst}
-use mathlib.Core.Logic.{_≢_, _⊎_, inl, inr}
+use mathlib.Core.Logic.{_≢_}
 use mathlib.Core.Bool.{Bool, true, false, cond}
 use mathlib.Core.List.{List}
-use lib.Dec.{T, ltb, eqb, leb→le}
+use lib.Dec.{T, ltb, eqb}
 use lib.ListN.{getD}
 use lib.IntN.{ℤ, pos}
 use lib.Signed.{_≤ℤ_, leZ}
-use borrow.Author.Tests.{ltb-true, ltb-false, lt-ltb, le-ltb, eqb-true, eq-eqb, ne-eqb}
+use borrow.Author.Tests.{lt-ltb, le-ltb, eqb-true, eq-eqb, ne-eqb}
 use Rattle.statement.specs.Cluster.{Split}
-use Rattle.statement.proofs.Rule.{Rule, Laws, Distinct}
+use Rattle.statement.proofs.Rule.{Laws, Distinct}
 use Rattle.statement.proofs.Instances.{less, rank, least, partner, code, placeBy, placed, fourRule, tableAt, tableRule}
 
 pub less-yes : (a b : ℕ) → a < b → less a b ≡ 1

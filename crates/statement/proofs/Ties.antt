@@ -1,28 +1,26 @@
 -- THE TIES: a matrix, and a table, by document 01's plain words are instances of the generic rule. Assumes nothing.
-use Prim.Native.Nat.{ℕ, zero, suc, _+_, _^_, _≤_, _<_}
+use Prim.Native.Nat.{ℕ, suc, _≤_, _<_}
 use native.Mathlib.Omega.{arith}
 use native.Mathlib.Nat.{le-refl}
-use mathlib.Core.Path.{_≡_, refl, sym, _∙_, ap, subst}
+use mathlib.Core.Path.{_≡_, refl, sym, ap, subst}
 use mathlib.Core.Logic.{_≢_, _⊎_, inl, inr, _↔_}
 use mathlib.Core.Bool.{Bool, true, false, cond}
 use mathlib.Core.List.{List}
 use lib.Dec.{T, leb→le}
-use lib.ListN.{getD}
 use lib.IntN.{ℤ, pos}
-use lib.Signed.{_≤ℤ_, _<ℤ_, leZ}
+use lib.Signed.{_≤ℤ_, leZ}
 use Rattle.statement.specs.Cluster.{bit, In, Out, Split, Across}
-use Rattle.statement.specs.Matrix.{distance, distanceLimit, weightLimit, AcceptedMatrix, score, MatrixWeight, MatrixSupported}
+use Rattle.statement.specs.Matrix.{distance, weightLimit, AcceptedMatrix, score, MatrixWeight, MatrixSupported}
 use Rattle.statement.specs.Table.{stands, TableSupported, tableWeight}
 use Rattle.statement.specs.Rows.{Row, weightIn}
 use Rattle.statement.specs.Growing.{matrixTrial, tableTrial, MatrixAnswer, TableAnswer}
-use Rattle.statement.proofs.Rule.{Rule, Distinct, Laws, Fours, Supported, Weight, WeightOf, Caps, Reached, Bare}
-use Rattle.statement.proofs.Instances.{matrixRule, tableRule, tableAt, placed, code}
+use Rattle.statement.proofs.Rule.{Rule, Distinct, Fours, Supported, Weight, WeightOf, Caps, Reached, Bare}
+use Rattle.statement.proofs.Instances.{matrixRule, tableRule}
 use Rattle.statement.proofs.Bits.{lt-bit}
 use Rattle.statement.proofs.Matrix.{matrix-laws, above-zero, of-score}
 use Rattle.statement.proofs.Table.{table-laws}
 use Rattle.statement.proofs.Weigh.{of-weight, weight-supports}
 use Rattle.statement.proofs.Reached.{weight-of}
-use Rattle.statement.proofs.Answer.{Full, Weighed}
 use Rattle.statement.proofs.Trial.{new-trial, matrix-trial, table-trial, stands-one}
 use Rattle.statement.proofs.Enlarged.{Plain, FullRows}
 

@@ -1,16 +1,16 @@
 -- FULL ANSWERS ARE UNIQUE: two full answers of a matrix, or of a table, are the same rows. Assumes nothing.
-use Prim.Native.Nat.{ℕ, suc, _^_, _≤_, _<_}
+use Prim.Native.Nat.{ℕ, suc, _^_, _≤_}
 use native.Mathlib.Omega.{arith}
 use native.Mathlib.Nat.{le-antisymm}
 use mathlib.Core.Path.{_≡_, refl, sym, _∙_, ap, ap₂, subst}
-use mathlib.Core.Logic.{inl, inr, _↔_}
+use mathlib.Core.Logic.{inl, inr}
 use mathlib.Core.List.{List, [], _∷_, map}
 use lib.Dec.{T, leb→le}
 use lib.IntN.{ℤ, pos}
-use lib.Signed.{_≤ℤ_, leZ}
+use lib.Signed.{leZ}
 use borrow.Author.Tests.{ne-eqb, eq-eqb}
 use Rattle.statement.specs.Matrix.{distance, MatrixWeight}
-use Rattle.statement.specs.Rows.{Row, row, clusters, Mem, Listed, weightIn, Ascending, FullAnswer}
+use Rattle.statement.specs.Rows.{Row, row, clusters, Mem, weightIn, Ascending, FullAnswer}
 use Rattle.statement.specs.Growing.{MatrixAnswer, TableAnswer}
 use Rattle.statement.proofs.Listed.{asc-unique}
 

@@ -1,5 +1,5 @@
 -- The weight of an extension is the lesser of the old weight and the newcomer's. Assumes nothing.
-use Prim.Native.Nat.{ℕ, zero, suc, _+_, _%_, _^_, _≤_, _<_, min}
+use Prim.Native.Nat.{ℕ, zero, suc, _%_, _^_, _≤_, _<_}
 use native.Mathlib.Omega.{arith}
 use native.Mathlib.Nat.{le-antisymm, le-refl, mod-self}
 use native.Mathlib.Decide.{decLt}
@@ -8,10 +8,9 @@ use mathlib.Core.Logic.{_↔_, _⊎_, inl, inr}
 use mathlib.Core.Bool.{Bool, true, false}
 use lib.Dec.{T, leb→le, le→leb}
 use lib.IntN.{ℤ, pos, negsuc}
-use lib.Signed.{_≤ℤ_, leZ}
-use Rattle.statement.specs.Cluster.{bit, In, Out, Split}
-use Rattle.statement.proofs.Rule.{Rule, Laws, Ok, Fours, Old, New, Carried, Meet, Weight, Trial, Reached, Bare, WeightOf, Caps, Kept, Value}
-use Rattle.statement.proofs.Bits.{bit-mod}
+use lib.Signed.{_≤ℤ_}
+use Rattle.statement.specs.Cluster.{Split}
+use Rattle.statement.proofs.Rule.{Rule, Laws, Fours, Old, Carried, Meet, Weight, Trial, Reached, Bare, WeightOf, Caps, Kept, Value}
 use Rattle.statement.proofs.Grow.{fours-grow, fours-new, old-carried, old-alone}
 
 pub weight-grow : (r : Rule) → Laws r → (k c w v : ℕ) → suc k ≤ r .taxa → Carried r k c

@@ -1,5 +1,5 @@
 -- Rows and lists of splits. Document 01, "Scores and splits": Row; "Growing and the allowance": the list's fixed room, well-formed.
-use Prim.Native.Nat.{ℕ, suc, _+_, _*_, _-_, _^_, _≤_, _<_}
+use Prim.Native.Nat.{ℕ, suc, _*_, _-_, _^_, _≤_}
 use mathlib.Core.Path.{_≡_}
 use mathlib.Core.Logic.{_⊎_, _↔_}
 use mathlib.Core.Bool.{Bool, cond, not, _&&_, _||_}

@@ -1,7 +1,7 @@
 -- Document 01, "The tree": links and homes of a list, the walk up, the cluster of an edge, the path between two homes and its sum.
 use Prim.Native.Nat.{ℕ, zero, suc, _+_, _*_, _/_, _%_}
 use mathlib.Core.Bool.{Bool, cond, not, _&&_}
-use mathlib.Core.List.{List, [], _∷_, _++_, map}
+use mathlib.Core.List.{List, [], _∷_, map}
 use lib.Dec.{leb, eqb}
 use lib.ListN.{length, getD}
 use Rattle.statement.specs.Cluster.{bit, groupOf}

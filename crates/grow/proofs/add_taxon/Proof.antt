@@ -1,5 +1,5 @@
 -- `grow::add_taxon` meets its contract, in three steps (AddTaxon). Assumes nothing.
-use Prim.Native.Nat.{ℕ, suc, _≤_}
+use Prim.Native.Nat.{suc, _≤_}
 use native.Mathlib.Omega.{arith}
 use mathlib.Core.Path.{_≡_}
 use mathlib.Core.List.{_++_}

@@ -1,5 +1,5 @@
 -- `grow::offer` meets its contract. Assumes nothing.
-use Prim.Native.Nat.{ℕ, _+_, suc}
+use Prim.Native.Nat.{ℕ, suc}
 use native.Mathlib.Numerals.{add-one}
 use mathlib.Core.Path.{_≡_, _∙_, ap}
 use borrow.Author.Needs.{needs}

@@ -1,5 +1,5 @@
 -- `grow::pass` meets its contract: the rows not yet passed, kept and pushed, complete the pass. Assumes nothing.
-use Prim.Native.Nat.{ℕ, suc, _-_}
+use Prim.Native.Nat.{suc, _-_}
 use native.Mathlib.Omega.{arith}
 use mathlib.Core.Path.{_≡_}
 use lib.ListN.{length}

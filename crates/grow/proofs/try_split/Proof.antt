@@ -1,6 +1,6 @@
 -- `grow::try_split` meets its contract: each kind has its own trial. Assumes nothing.
 use Prim.Native.Nat.{ℕ}
-use mathlib.Core.Path.{_≡_, sym, _∙_, ap}
+use mathlib.Core.Path.{sym, _∙_, ap}
 use Rattle.grow.proofs.Sources.{by-matrix, by-table, square, size}
 use Rattle.grow.proofs.try_split.Statement.{statement}
 use Rattle.grow.proofs.try_split.Tie as tie

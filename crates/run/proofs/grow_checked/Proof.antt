@@ -1,13 +1,12 @@
 -- `run::grow_checked` meets its contract: a way out for each check. Assumes nothing.
-use native.Mathlib.Omega.{arith}
 use mathlib.Core.Path.{_≡_, sym, _∙_, ap}
-use mathlib.Core.Bool.{true, false}
+use mathlib.Core.Bool.{true}
 use lib.ListN.{length}
 use borrow.Author.Needs.{needs}
 use borrow.Author.Tests.{not-true, not-false}
 use Prim.Native.Nat.{ℕ}
 use Rattle.statement.specs.declared.Outcome.the-variants.{Done}
-use Rattle.statement.specs.Rows.{wellFormed, WellFormed}
+use Rattle.statement.specs.Rows.{wellFormed}
 use Rattle.statement.proofs.WellFormed.{well-formed-is}
 use Rattle.grow.specs.Source.{mostBy}
 use Rattle.run.proofs.Laws.{done-is, not-done, grow-refused, grow-unsound, grow-sound}

@@ -1,0 +1,4 @@
+pub mod Search
+pub mod Walked
+pub mod Tested
+pub mod Ways
