@@ -27,7 +27,8 @@ use Rattle.tree_write.proofs.RoundTrip.{write-read, tree-of-body}
 use Rattle.tree_read.specs.SameTree.{SameTree, rowPlace}
 use Rattle.tree_read.proofs.Rows.{read-well}
 use Rattle.tree_read.proofs.Renumbered.{read-same}
-use Rattle.claims.specs.Demands.{ReadsBack, TreeRead}
+use Rattle.paths.proofs.Entries.{sums-written}
+use Rattle.claims.specs.Demands.{ReadsBack, TreeRead, ExactSums}
 
 -- the list's arrays have their 125 places, as every value of its type has
 pub reads-back : (n : ℕ) (s : Splits) (out : List ℕ) → length (s .clusters) ≡ 125 → length (s .weights) ≡ 125 → ReadsBack n s out
@@ -93,3 +94,7 @@ module _ (n : ℕ) (body : List ℕ) (passed : AllPassed (treeChecks n body)) wh
         same = λ out size.
             rw (in-row-order out (omega (arith, rows-counted)), rows-of-list n (treeRows n body)) (read-same n body passed);
       })
+
+-- PATH SUMS, over the call: what an accepted call leaves in the slice
+pub path-sums : (n : ℕ) (s : Splits) (out : List ℕ) → length (s .clusters) ≡ 125 → length (s .weights) ≡ 125 → ExactSums n s out
+path-sums = sums-written

@@ -18,7 +18,8 @@ use Rattle.statement.specs.Rows.{Row, clusters, Listed, weightIn, Ascending, ro
 use Rattle.statement.specs.Tree.{root, treeOf, walk}
 use Rattle.statement.specs.Bytes.{treeIn, treeLength}
 use Rattle.statement.specs.Refusals.{Check, Given}
-use Rattle.statement.specs.Calls.{writeTree, treeWritten, readTree}
+use Rattle.statement.specs.Calls.{writeTree, treeWritten, readTree, sumPaths, pathsWritten}
+use Rattle.paths.specs.RowSum.{PathSums}
 use Rattle.tree_read.specs.SameTree.{SameTree, rowPlace}
 
 -- A WAY TO PART the first n trees into two non-empty groups: the side of each; some tree is on another side than tree 0
@@ -79,6 +80,11 @@ pub record TreeRead (n : ℕ) (body : List ℕ) (list : Splits) : Type 0 where
   pub written : (out : List ℕ) → length out ≡ treeLength n (list .rows) → writeTree n list out ≡ Done
   pub same : (out : List ℕ) → length out ≡ treeLength n (list .rows)
       → SameTree n (treeIn n body) (treeIn n (treeWritten n list out)) (rowPlace n (treeIn n body) (rowsOf list))
+
+-- "path lengths are exact sums": an accepted call leaves, for each two taxa, the sum along the tree's path between their homes; it is the sum over
+-- the rows that part them, the same both ways, 0 to itself, and never above 250,000,000
+abbrev pub ExactSums : ℕ → Splits → List ℕ → Type 0
+ExactSums n s out = sumPaths n s out ≡ Done → PathSums n (rowsOf s) (pathsWritten n s out)
 
 -- DEMAND 1: a reply is refused with a number at a place exactly when the table of refusals says so
 abbrev pub ExactlyWhen : Outcome → List Check → Type 0
