@@ -1,2 +1,3 @@
 -- The root of the proofs.
 pub mod Stores
+pub mod RoundTrip

@@ -69,5 +69,5 @@ unfolding recordOf
 laid-out kind n body o₀ o₁ o₂ o₃ size same a b c =
     let front : take 8 o₁ ≡ header kind n (length body) = ap (take 8) a in
     let both : take (8 + length body) o₂ ≡ header kind n (length body) ++ body =
-        ap (take (8 + length body)) b ∙ take-paste o₁ 8 body (length body) (omega arith) (omega arith) ∙ rw (front, take-length) in
+    ap (take (8 + length body)) b ∙ take-paste o₁ 8 body (length body) (omega arith) (omega arith) ∙ rw (front, take-length) in
     c ∙ ap (λ (l : List ℕ). summed (l ++ pad (length body))) both
