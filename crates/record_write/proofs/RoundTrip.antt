@@ -13,11 +13,13 @@ use Rattle.statement.specs.declared.Outcome.the-variants.{Done}
 use Rattle.statement.specs.Table.{choose}
 use Rattle.statement.specs.Bytes.{fourBytes, fromFour, wordTotal, wordSum, treeLength}
 use Rattle.statement.specs.Refusals.{numberOf, treeFits}
-use Rattle.statement.specs.Record.{kinds, isKind, fitsKind, kindIn, taxaIn, lengthIn, recordLength, padIn, bodyIn, sumWord, summed, recordOf}
-use Rattle.statement.specs.Calls.{findRecord}
+use Rattle.statement.specs.Record.{kinds, isKind, fitsKind, kindIn, taxaIn, lengthIn, recordLength, padIn, bodyIn, sumWord, summed, recordOf, writingChecks}
+use Rattle.statement.specs.Calls.{findRecord, writeRecord, recordWritten}
 use Rattle.statement.proofs.Lowest.{some-of}
+use Rattle.statement.proofs.Refused.{accepted-exactly}
+use Rattle.statement.proofs.Accepted.{taxa-passed}
 use Rattle.table.proofs.Choose.{absorb, choose-fits}
-use Rattle.record_find.proofs.Found.{Found, found-exactly, body-found}
+use Rattle.record_find.proofs.Found.{good-passed, Found, found-exactly, body-found}
 use Rattle.record_write.specs.Parts.{header, pad}
 
 -- NO BODY IS LONG: its length stands in four bytes
@@ -145,3 +147,15 @@ module _ (kind n : ℕ) (body rest : List ℕ) (known : isKind kinds kind ≡ tr
       let len : 8 + length body - 8 ≡ length body = omega arith in
       sym (body-found (recordOf kind n body ++ rest) (ap numberOf round-trip-found) (length body) (sym (length-is kind n body rest short)))
       ∙ ap (λ (k : ℕ). take k (drop 8 (recordOf kind n body ++ rest))) len ∙ body-is kind n body rest short
+
+-- after an accepted writing the lent slice is a record that is found, and its body is the one written
+pub written-back : (kind n : ℕ) (body out : List ℕ) → writeRecord kind n body out ≡ Done
+    → (findRecord (recordWritten kind n body out) ≡ Done) × (bodyIn (recordWritten kind n body out) ≡ body)
+unfolding writeRecord recordWritten
+written-back kind n body out e =
+    let (known, (taxa, (fits, others))) = accepted-exactly (writingChecks kind n body (length out)) .0 e in
+    let (two, few) = taxa-passed n .0 taxa in
+    let k = good-passed 17 _ .0 known in
+    let f = good-passed 2 _ .0 fits in
+    let is : recordWritten kind n body out ≡ recordOf kind n body ++ [] = rw e (sym (append-nil (recordOf kind n body))) in
+    (ap findRecord is ∙ round-trip-found kind n body [] k two few f, ap bodyIn is ∙ round-trip-body kind n body [] k two few f)
