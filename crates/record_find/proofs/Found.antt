@@ -8,14 +8,13 @@ use mathlib.Core.List.{List, [], _∷_, _++_}
 use lib.Dec.{eqb, ltb}
 use lib.ListN.{length, take, drop, getD}
 use borrow.Author.Tests.{eq-eqb, ne-eqb}
-use Rattle.statement.specs.declared.Outcome.{Outcome}
-use Rattle.statement.specs.declared.Outcome.the-variants.{Done, Short, Refused}
+use Rattle.statement.specs.declared.Outcome.the-variants.{Done, Refused}
 use Rattle.statement.specs.Bytes.{wordSum}
 use Rattle.statement.specs.Refusals.{numberOf, Check, outcomeOf, Passed, AllPassed, single, markOff, cutOff, sumOff}
 use Rattle.statement.specs.Record.{kinds, isKind, fitsKind, kindIn, taxaIn, lengthIn, recordLength, padIn, recordChecks, bodyIn}
-use Rattle.statement.specs.Calls.{unlessRefused, findRecord}
+use Rattle.statement.specs.Calls.{findRecord}
 use Rattle.statement.proofs.Tests.{same-is, both-is, neither-is, not-is, not-less-is}
-use Rattle.statement.proofs.Refused.{refused-single, accepted-exactly, append-checks, done-by-number, refused-by-number}
+use Rattle.statement.proofs.Refused.{refused-single, accepted-exactly, append-checks, unless-refused, done-by-number, refused-by-number}
 use Rattle.statement.proofs.Accepted.{single-passed, taxa-passed}
 use Rattle.record_find.specs.Stretch.{bodyStart}
 
@@ -114,12 +113,8 @@ module _ (bytes : List ℕ) where
 module _ (bytes : List ℕ) (more : List Check) where
   pub more-refused : numberOf (findRecord bytes) ≢ 0 → findRecord bytes ≡ outcomeOf (recordChecks bytes ++ more)
   unfolding findRecord
-  more-refused h = sym (append-checks (recordChecks bytes) more ∙ go (outcomeOf (recordChecks bytes)) h)
-    where
-      go : (o : Outcome) → numberOf o ≢ 0 → unlessRefused o o (outcomeOf more) ≡ o
-      go Done n = absurd (n refl)
-      go Short n = absurd (n refl)
-      go (Refused number place) n = refl
+  more-refused h =
+      let said = outcomeOf (recordChecks bytes) in sym (append-checks (recordChecks bytes) more ∙ unless-refused said said (outcomeOf more) h)
 
   pub more-found : numberOf (findRecord bytes) ≡ 0 → outcomeOf (recordChecks bytes ++ more) ≡ outcomeOf more
   unfolding findRecord

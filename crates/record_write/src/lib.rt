@@ -4,6 +4,7 @@ use record_find::record_length;
 use record_find::word_sum;
 use statement::Outcome;
 use tree_body::word_at;
+use tree_read::read_tree;
 ghost use mathlib.Core.Path.{_≡_};
 ghost use mathlib.Core.List.{_++_};
 ghost use Prim.Native.Nat.{_+_, _*_, _≤_, _<_};
@@ -66,4 +67,68 @@ pub fn lay_out(kind: u8, n: u8, body: &[u8], out: &mut [u8])
     put_header(kind, n, len, out);
     put_body(body, out);
     put_end(len, out);
+}
+
+// The words of four bytes of a body that has so many of them.
+fn words_of(count: usize, body: &[u8]) -> [u32; 4096]
+    requires { ⌜ (count ≤ 4096) × (length (now body) ≡ 4 * count) ⌝ }
+    ensures { λ r. ⌜ take count r ≡ fromBytes (now (body .entry)) ⌝ }
+{
+    let mut words = [0u32; 4096];
+    let mut e: usize = 0;
+    while e < count {
+        words[e] = word_at(body, 4 * e);
+        e += 1;
+    }
+    words
+}
+
+// Refusals 1 to 5 of a matrix whose entries are words of four bytes.
+fn check_matrix(n: usize, body: &[u8]) -> Outcome
+    ensures { λ r. ⌜ r ≡ outcomeOf (inputChecks 1 n (now (body .entry))) ⌝ }
+{
+    if n < 2 || n > 64 {
+        return Outcome::Refused(1, 0);
+    }
+    let count = n * n;
+    if body.len() != 4 * count {
+        return Outcome::Refused(2, 0);
+    }
+    let words = words_of(count, body);
+    matrix::check(n, &words[..count])
+}
+
+// The end of each writing of a known kind, whose input's checks said `said`: 7 last, then the record. A refusal leaves the slice as it was.
+fn write_checked(said: Outcome, kind: u8, n: usize, body: &[u8], out: &mut [u8]) -> Outcome
+    requires { ⌜ Said kind n (now body) said ⌝ }
+    ensures reply { λ r. ⌜ r ≡ writeRecord kind n (now (body .entry)) (now (out .entry)) ⌝ }
+    ensures contents { λ _. ⌜ now (out .exit) ≡ recordWritten kind n (now (body .entry)) (now (out .entry)) ⌝ }
+{
+    if number_of(said) != 0 {
+        return said;
+    }
+    if out.len() != record_length(body.len()) {
+        return Outcome::Refused(7, 0);
+    }
+    lay_out(kind, n as u8, body, out);
+    Outcome::Done
+}
+
+// A record written into a slice of its exact length: 17 first, for an unknown kind; then 1, 2, the body's own checks, and 7 last.
+pub fn write_record(kind: u8, n: usize, body: &[u8], out: &mut [u8]) -> Outcome
+    ensures reply { λ r. ⌜ r ≡ writeRecord kind n (now (body .entry)) (now (out .entry)) ⌝ }
+    ensures contents { λ _. ⌜ now (out .exit) ≡ recordWritten kind n (now (body .entry)) (now (out .entry)) ⌝ }
+{
+    if kind == 1 {
+        return write_checked(check_matrix(n, body), kind, n, body, out);
+    }
+    if kind == 2 {
+        return write_checked(table::check(n, body), kind, n, body, out);
+    }
+    if kind == 3 {
+        let read = read_tree(n, body);
+        let said = read.outcome;
+        return write_checked(said, kind, n, body, out);
+    }
+    Outcome::Refused(17, 0)
 }

@@ -110,6 +110,12 @@ append-checks (c ∷ cs) more = go (some (c .bad) (c .places)) (append-checks cs
     go true e = refl
     go false e = e
 
+-- a refused outcome leaves what it leaves
+pub unless-refused : {A : Type 0} (o : Outcome) (left given : A) → numberOf o ≢ 0 → unlessRefused o left given ≡ left
+unless-refused Done left given h = absurd (h refl)
+unless-refused Short left given h = absurd (h refl)
+unless-refused (Refused number place) left given h = refl
+
 -- checks never say short
 pub never-short : (checks : List Check) → outcomeOf checks ≡ Short → ⊥
 never-short checks e = go (either checks)
