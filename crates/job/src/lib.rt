@@ -2,33 +2,19 @@
 use record_find::Taken;
 use statement::Growth;
 ghost use mathlib.Core.Path.{_≡_};
-ghost use Prim.Native.Nat.{_*_, _/_, _≤_};
-ghost use lib.ListN.{length, take};
+ghost use Prim.Native.Nat.{_*_, _≤_};
+ghost use lib.ListN.{length};
 ghost use Rattle.statement.specs.Bytes.{fromBytes};
 ghost use Rattle.statement.specs.Calls.{runMatrix, runRecord};
-
-// The words of four bytes of a matrix body, at the front of a list of 4,096.
-fn words_of(body: &[u8]) -> [u32; 4096]
-    requires { ⌜ length (now body) ≤ 16384 ⌝ }
-    ensures { λ r. ⌜ take (length (now (body .entry)) / 4) r ≡ fromBytes (now (body .entry)) ⌝ }
-{
-    let mut words = [0u32; 4096];
-    let count = body.len() / 4;
-    let mut i: usize = 0;
-    while i < count {
-        words[i] = tree_body::word_at(body, 4 * i);
-        i += 1;
-    }
-    words
-}
 
 // A matrix body, run.
 fn run_body(n: usize, body: &[u8]) -> Growth
     requires { ⌜ (n ≤ 64) × (length (now body) ≡ 4 * (n * n)) ⌝ }
     ensures { λ r. ⌜ r ≡ runMatrix n (fromBytes (now (body .entry))) ⌝ }
 {
-    let words = words_of(body);
-    run::run_matrix(n, &words[..n * n])
+    let count = n * n;
+    let words = words::words_of(count, body);
+    run::run_matrix(n, &words[..count])
 }
 
 // A record run. Refused: an empty list with k = 0, and 0 trials.

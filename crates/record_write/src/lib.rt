@@ -3,7 +3,6 @@ use record_find::number_of;
 use record_find::record_length;
 use record_find::word_sum;
 use statement::Outcome;
-use tree_body::word_at;
 use tree_read::read_tree;
 ghost use mathlib.Core.Path.{_≡_};
 ghost use mathlib.Core.List.{_++_};
@@ -69,20 +68,6 @@ pub fn lay_out(kind: u8, n: u8, body: &[u8], out: &mut [u8])
     put_end(len, out);
 }
 
-// The words of four bytes of a body that has so many of them.
-fn words_of(count: usize, body: &[u8]) -> [u32; 4096]
-    requires { ⌜ (count ≤ 4096) × (length (now body) ≡ 4 * count) ⌝ }
-    ensures { λ r. ⌜ take count r ≡ fromBytes (now (body .entry)) ⌝ }
-{
-    let mut words = [0u32; 4096];
-    let mut e: usize = 0;
-    while e < count {
-        words[e] = word_at(body, 4 * e);
-        e += 1;
-    }
-    words
-}
-
 // Refusals 1 to 5 of a matrix whose entries are words of four bytes.
 fn check_matrix(n: usize, body: &[u8]) -> Outcome
     ensures { λ r. ⌜ r ≡ outcomeOf (inputChecks 1 n (now (body .entry))) ⌝ }
@@ -94,7 +79,7 @@ fn check_matrix(n: usize, body: &[u8]) -> Outcome
     if body.len() != 4 * count {
         return Outcome::Refused(2, 0);
     }
-    let words = words_of(count, body);
+    let words = words::words_of(count, body);
     matrix::check(n, &words[..count])
 }
 

@@ -1,13 +1,13 @@
--- `record_write::words_of` meets its contract, a word at a time. Assumes nothing.
+-- `words::words_of` meets its contract, a word at a time. Assumes nothing.
 use Prim.Native.Nat.{_-_, _≤_}
 use native.Mathlib.Omega.{arith}
 use mathlib.Core.Path.{_≡_, refl}
 use lib.ListN.{length, take, length-set}
 use borrow.Author.Needs.{needs}
 use Rattle.statement.specs.Bytes.{fromBytes}
-use Rattle.record_write.proofs.Entries.{word-more, words-all}
-use Rattle.record_write.proofs.words_of.Statement.{statement}
-use Rattle.record_write.proofs.words_of.Tie as tie
+use Rattle.words.proofs.Laws.{word-more, words-all}
+use Rattle.words.proofs.words_of.Statement.{statement}
+use Rattle.words.proofs.words_of.Tie as tie
 
 abbrev Inv-loop : tie.InvT-loop
 Inv-loop count body words₀ e₀ words e = (e ≤ count) × (length words ≡ 4096) × (take e words ≡ take e (fromBytes body))
