@@ -2,10 +2,9 @@
 // Document 01, "Records in a file" and "Refusal numbers".
 use statement::Outcome;
 ghost use mathlib.Core.Path.{_≡_};
-ghost use mathlib.Core.Bool.{_&&_};
 ghost use Prim.Native.Nat.{_+_, _*_, _^_, _≤_, _<_};
 ghost use lib.Dec.{eqb};
-ghost use lib.ListN.{length, getD, take};
+ghost use lib.ListN.{length};
 ghost use Rattle.statement.specs.Bytes.{wordSum};
 ghost use Rattle.statement.specs.Refusals.{numberOf, outcomeOf, treeFits};
 ghost use Rattle.statement.specs.Record.{kinds, isKind, fitsKind, lengthIn, recordLength, padIn, takenChecks, bodyIn};

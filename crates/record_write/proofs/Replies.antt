@@ -4,7 +4,7 @@ use native.Mathlib.Omega.{arith}
 use mathlib.Core.Path.{_≡_, refl, sym, _∙_, ap}
 use mathlib.Core.Logic.{_≢_}
 use mathlib.Core.Bool.{Bool, true, false, not, cond}
-use mathlib.Core.List.{List, [], _∷_, _++_}
+use mathlib.Core.List.{List, [], _∷_}
 use lib.Dec.{eqb}
 use lib.ListN.{length}
 use borrow.Author.Tests.{eq-eqb, ne-eqb}
@@ -13,8 +13,8 @@ use Rattle.statement.specs.declared.Reading.{Reading}
 use Rattle.statement.specs.declared.Outcome.{Outcome}
 use Rattle.statement.specs.declared.Outcome.the-variants.{Done, Short, Refused}
 use Rattle.statement.specs.Bytes.{fromBytes}
-use Rattle.statement.specs.Refusals.{numberOf, Check, outcomeOf, outputOff, byteOff, entryChecks, vertexChecks, treeChecks}
-use Rattle.statement.specs.Record.{kinds, isKind, recordLength, recordOf, bodyChecks}
+use Rattle.statement.specs.Refusals.{numberOf, outcomeOf, outputOff, byteOff, entryChecks, vertexChecks, treeChecks}
+use Rattle.statement.specs.Record.{kinds, isKind, recordLength, recordOf}
 use Rattle.statement.specs.Calls.{unlessRefused, refusedReading, readTree, writeRecord, recordWritten}
 use Rattle.statement.proofs.Refused.{first-passed, refused-single, none-left, accepted-exactly, append-checks, unless-refused, never-short, Each, done-by-number}
 use Rattle.statement.proofs.Accepted.{taxa-passed}

@@ -2,18 +2,18 @@
 use Prim.Native.Nat.{ℕ, _+_, _*_, _-_, _/_, _%_, _^_, _≤_, _<_}
 use native.Mathlib.Nat.{div-div-eq-div-mul, mul-le-mul}
 use native.Mathlib.Omega.{arith}
-use mathlib.Core.Path.{_≡_, refl, sym, _∙_, ap, subst}
+use mathlib.Core.Path.{_≡_, refl, sym, _∙_, ap}
 use mathlib.Core.Bool.{Bool, true, false, cond, false≢true}
 use mathlib.Core.List.{List, [], _∷_, _++_, append-nil, append-assoc}
 use lib.Dec.{eqb}
 use lib.ListN.{length, take, drop, getD, length-append}
 use lib.Seq.{take-at, getD-at}
-use borrow.Author.Tests.{eqb-true, eqb-false, eq-eqb}
+use borrow.Author.Tests.{eqb-true, eqb-false}
 use Rattle.statement.specs.declared.Outcome.the-variants.{Done}
 use Rattle.statement.specs.Table.{choose}
-use Rattle.statement.specs.Bytes.{fourBytes, fromFour, wordTotal, wordSum, treeLength}
+use Rattle.statement.specs.Bytes.{fromFour, wordTotal, wordSum, treeLength}
 use Rattle.statement.specs.Refusals.{numberOf, treeFits}
-use Rattle.statement.specs.Record.{kinds, isKind, fitsKind, kindIn, taxaIn, lengthIn, recordLength, padIn, bodyIn, sumWord, summed, recordOf, writingChecks}
+use Rattle.statement.specs.Record.{kinds, isKind, fitsKind, lengthIn, recordLength, padIn, bodyIn, sumWord, summed, recordOf, writingChecks}
 use Rattle.statement.specs.Calls.{findRecord, writeRecord, recordWritten}
 use Rattle.statement.proofs.Lowest.{some-of}
 use Rattle.statement.proofs.Refused.{accepted-exactly}

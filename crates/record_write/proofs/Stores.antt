@@ -1,14 +1,14 @@
 -- What the writer's stores leave in the lent slice. Assumes nothing.
-use Prim.Native.Nat.{ℕ, suc, _+_, _-_, _/_, _%_, _≤_, _<_}
+use Prim.Native.Nat.{ℕ, suc, _+_, _/_, _%_, _≤_, _<_}
 use native.Mathlib.Numerals.{add-one}
 use native.Mathlib.Omega.{arith}
-use mathlib.Core.Path.{_≡_, refl, sym, _∙_, ap, subst}
+use mathlib.Core.Path.{_≡_, sym, _∙_, ap, subst}
 use mathlib.Core.Logic.{_≢_}
 use mathlib.Core.List.{List, [], _∷_, _++_, append-nil}
 use lib.ListN.{length, take, drop, getD, set, length-set, drop-of-length-le}
 use lib.Seq.{sets-eq, take-suc-set, take-paste, take-length, paste, paste-suc}
 use borrow.Author.Tests.{eq-eqb, ne-eqb}
-use Rattle.statement.specs.Bytes.{wordSum, fourBytes}
+use Rattle.statement.specs.Bytes.{wordSum}
 use Rattle.statement.specs.Record.{recordLength, sumWord, summed, recordOf}
 use Rattle.record_write.specs.Parts.{header, pad}
 
