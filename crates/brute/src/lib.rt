@@ -94,37 +94,6 @@ fn matched(list: Splits, row: usize, c: u64, w: u64) -> usize {
     row + 1
 }
 
-// The row after the split c, which has to be the next row where the matrix supports it.
-fn row_after(n: usize, d: &[u32; 49], list: Splits, row: usize, c: u64) -> usize
-    requires { ⌜ n ≤ 7 ⌝ }
-{
-    if c >> n != 0 {
-        return row;
-    }
-    let w = weight_above(n, d, c);
-    if w <= 10000000000 {
-        return row;
-    }
-    matched(list, row, c, w - 10000000000)
-}
-
-// Whether the list is the answer for the matrix: each supported split of n taxa in turn, ascending, with its weight, and no other.
-pub fn is_matrix_answer(n: usize, d: &[u32; 49], list: Splits) -> bool
-    requires { ⌜ n ≤ 7 ⌝ }
-    ensures { λ r. ⌜ (r ≡ true → list .taxa ≡ n) ⌝ }
-{
-    let mut row: usize = 0;
-    let mut c: u64 = 2;
-    while c < 128 {
-        row = row_after(n, d, list, row, c);
-        c += 2;
-    }
-    if list.taxa != n {
-        return false;
-    }
-    row == list.rows
-}
-
 // Whether the fours a<b<x<d of a split, of which the table says `byte`, is parted by the split as the table says or not by two and two.
 fn agrees(c: u64, a: usize, b: usize, x: usize, d: usize, byte: u8) -> bool
     requires { ⌜ (a < 7) × (b < 7) × (x < 7) × (d < 7) ⌝ }
@@ -191,28 +160,54 @@ fn table_supports(n: usize, bytes: &[u8; 35], c: u64) -> bool {
     f.all
 }
 
-// The row after the split c, which has to be the next row where the table supports it.
-fn table_row_after(n: usize, bytes: &[u8; 35], list: Splits, row: usize, c: u64) -> usize
+// The weight of the split c, 0 where it is not supported: by the matrix d, or else by the table.
+fn weight_of(by_matrix: bool, n: usize, d: &[u32; 49], bytes: &[u8; 35], c: u64) -> u64
+    requires { ⌜ n ≤ 7 ⌝ }
+{
+    if by_matrix {
+        let w = weight_above(n, d, c);
+        if w <= 10000000000 {
+            return 0;
+        }
+        return w - 10000000000;
+    }
+    if table_supports(n, bytes, c) {
+        return 1;
+    }
+    0
+}
+
+// The row after the split c, which has to be the next row where it is supported.
+fn row_after(
+    by_matrix: bool,
+    n: usize,
+    d: &[u32; 49],
+    bytes: &[u8; 35],
+    list: Splits,
+    row: usize,
+    c: u64,
+) -> usize
     requires { ⌜ n ≤ 7 ⌝ }
 {
     if c >> n != 0 {
         return row;
     }
-    if !table_supports(n, bytes, c) {
+    let w = weight_of(by_matrix, n, d, bytes, c);
+    if w == 0 {
         return row;
     }
-    matched(list, row, c, 1)
+    matched(list, row, c, w)
 }
 
-// Whether the list is the answer for the table: each supported split of n taxa in turn, ascending, at weight 1, and no other.
-pub fn is_table_answer(n: usize, bytes: &[u8; 35], list: Splits) -> bool
+// Whether the list is the answer: each supported split of n taxa in turn, ascending, with its weight, and no other.
+pub fn is_answer(by_matrix: bool, n: usize, d: &[u32; 49], bytes: &[u8; 35], list: Splits) -> bool
     requires { ⌜ n ≤ 7 ⌝ }
     ensures { λ r. ⌜ (r ≡ true → list .taxa ≡ n) ⌝ }
 {
     let mut row: usize = 0;
     let mut c: u64 = 2;
     while c < 128 {
-        row = table_row_after(n, bytes, list, row, c);
+        row = row_after(by_matrix, n, d, bytes, list, row, c);
         c += 2;
     }
     if list.taxa != n {

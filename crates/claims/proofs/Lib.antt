@@ -2,3 +2,4 @@ pub mod Ways
 pub mod Demand3
 pub mod Demand1
 pub mod Growing
+pub mod Trees

@@ -4,6 +4,7 @@ use mathlib.Core.Path.{_≡_}
 use mathlib.Core.Logic.{_≢_, _↔_}
 use mathlib.Core.Bool.{Bool, true, not, Bool·beq}
 use mathlib.Core.List.{List}
+use lib.ListN.{length}
 use lib.IntN.{pos}
 use lib.Signed.{_<ℤ_}
 use Rattle.statement.specs.declared.Splits.{Splits}
@@ -11,11 +12,15 @@ use Rattle.statement.specs.declared.Growth.{Growth}
 use Rattle.statement.specs.declared.Outcome.{Outcome}
 use Rattle.statement.specs.declared.Outcome.the-variants.{Done, Refused}
 use Rattle.statement.specs.Cluster.{groupOf, Conflict}
-use Rattle.statement.specs.Matrix.{distance, score, MatrixWeight}
+use Rattle.statement.specs.Matrix.{distance, score, weightLimit, MatrixWeight}
 use Rattle.statement.specs.Table.{stands, tableWeight}
-use Rattle.statement.specs.Rows.{Row, clusters, Listed, weightIn, Ascending, rowsOf, WellFormed}
+use Rattle.statement.specs.Rows.{Row, clusters, Listed, weightIn, Ascending, rowsOf, listOf, WellFormed}
 use Rattle.statement.specs.Tree.{root, treeOf, walk}
+use Rattle.statement.specs.Bytes.{treeIn, treeLength}
 use Rattle.statement.specs.Refusals.{Check, Given}
+use Rattle.statement.specs.Calls.{writeTree, treeWritten, readTree, sumPaths, pathsWritten}
+use Rattle.paths.specs.RowSum.{PathSums}
+use Rattle.tree_read.specs.SameTree.{SameTree, rowPlace}
 
 -- A WAY TO PART the first n trees into two non-empty groups: the side of each; some tree is on another side than tree 0
 pub record Way (n : ℕ) : Type 0 where
@@ -63,6 +68,23 @@ MatrixWeights n entries reply =
 
 abbrev pub TableWeights : Growth → Type 0
 TableWeights reply = (c : ℕ) → Listed c (rowsOf (reply .list)) → weightIn (rowsOf (reply .list)) c ≡ tableWeight
+
+-- DEMAND 2, of trees: "A list of splits becomes its tree, that tree read again yields the list"
+abbrev pub ReadsBack : ℕ → Splits → List ℕ → Type 0
+ReadsBack n s out = writeTree n s out ≡ Done → readTree n (treeWritten n s out) ≡ record { outcome = Done; list = listOf n (rowsOf s) }
+
+-- a tree read in any numbering gives a well-formed list with k = n, and writing that list gives the same tree in row order
+pub record TreeRead (n : ℕ) (body : List ℕ) (list : Splits) : Type 0 where
+  pub taxa : list .taxa ≡ n
+  pub well : WellFormed weightLimit n list
+  pub written : (out : List ℕ) → length out ≡ treeLength n (list .rows) → writeTree n list out ≡ Done
+  pub same : (out : List ℕ) → length out ≡ treeLength n (list .rows)
+      → SameTree n (treeIn n body) (treeIn n (treeWritten n list out)) (rowPlace n (treeIn n body) (rowsOf list))
+
+-- "path lengths are exact sums": an accepted call leaves, for each two taxa, the sum along the tree's path between their homes; it is the sum over
+-- the rows that part them, the same both ways, 0 to itself, and never above 250,000,000
+abbrev pub ExactSums : ℕ → Splits → List ℕ → Type 0
+ExactSums n s out = sumPaths n s out ≡ Done → PathSums n (rowsOf s) (pathsWritten n s out)
 
 -- DEMAND 1: a reply is refused with a number at a place exactly when the table of refusals says so
 abbrev pub ExactlyWhen : Outcome → List Check → Type 0

@@ -152,41 +152,37 @@ fn table_in_parts(n: usize, bytes: &[u8], seed: u64) -> Parts {
     p
 }
 
-// 0 where the list of a matrix is the answer by brute force, and the growth in parts ends with the same list and trials; else 1.
-fn matrix_differs(n: usize, d: [u32; 49], seed: u64) -> u64
+// 0 where a list is the answer by brute force, and the growth in parts ended with the same list and trials; else 1.
+fn differs(by_matrix: bool, n: usize, d: [u32; 49], bytes: [u8; 35], g: Growth, p: Parts) -> u64
     requires { ⌜ n ≤ 7 ⌝ }
 {
-    let g = run::run_matrix(n, samples::first_entries(&d, samples::entry_count(n)));
     let list = g.list;
-    if !brute::is_matrix_answer(n, &d, list) {
+    let parts = p.list;
+    if !brute::is_answer(by_matrix, n, &d, &bytes, list) {
         return 1;
     }
-    let p = matrix_in_parts(n, samples::first_entries(&d, samples::entry_count(n)), seed);
-    let parts = p.list;
     if brute::same(list, parts) && g.trials == p.trials {
         return 0;
     }
     1
 }
 
+fn matrix_differs(n: usize, d: [u32; 49], seed: u64) -> u64
+    requires { ⌜ n ≤ 7 ⌝ }
+{
+    let entries = samples::first_entries(&d, samples::entry_count(n));
+    let g = run::run_matrix(n, entries);
+    let p = matrix_in_parts(n, entries, seed);
+    differs(true, n, d, [0; 35], g, p)
+}
+
 fn table_differs(n: usize, bytes: [u8; 35], seed: u64) -> u64
     requires { ⌜ n ≤ 7 ⌝ }
 {
-    let g = run::run_table(n, samples::first_bytes(&bytes, samples::byte_count(n)));
-    let list = g.list;
-    if !brute::is_table_answer(n, &bytes, list) {
-        return 1;
-    }
-    let p = table_in_parts(
-        n,
-        samples::first_bytes(&bytes, samples::byte_count(n)),
-        seed,
-    );
-    let parts = p.list;
-    if brute::same(list, parts) && g.trials == p.trials {
-        return 0;
-    }
-    1
+    let table = samples::first_bytes(&bytes, samples::byte_count(n));
+    let g = run::run_table(n, table);
+    let p = table_in_parts(n, table, seed);
+    differs(false, n, [0; 49], bytes, g, p)
 }
 
 // Case i of the differential run: n from 2 to 7, a matrix in one of five shapes and the table made from it, and every fifth time a table of

@@ -1,1 +1,2 @@
 pub mod Pushed
+pub mod Whole

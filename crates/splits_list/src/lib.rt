@@ -1,4 +1,4 @@
-// Lists of splits: made empty, a row pushed, and the test that a given list is well-formed.
+// Lists of splits: made empty, a row pushed, the test that a given list is well-formed, and the checks of a list with k = n.
 // Document 01, "Growing and the allowance": the list has fixed room for 125 rows; well-formed.
 use statement::Splits;
 ghost use mathlib.Core.Path.{_≡_};
@@ -10,6 +10,7 @@ ghost use Rattle.statement.specs.Cluster.{Split};
 ghost use Rattle.statement.specs.Lowest.{some, none};
 ghost use Rattle.statement.specs.Rows.{listOf, conflicts, fits, clashes, badRow, wellFormed};
 ghost use Rattle.splits_list.specs.Pushed.{pushed};
+ghost use Rattle.splits_list.specs.Whole.{wholeRefusal};
 
 // The empty list, over k taxa: zeros throughout.
 pub fn empty(k: usize) -> Splits
@@ -156,4 +157,23 @@ pub fn well_formed(most: u32, n: usize, s: Splits) -> bool
         return false;
     }
     rows_fit(most, s)
+}
+
+// The checks of a call that takes n and a list with k = n: 1 or 8 where they are refused, else 0.
+pub fn whole_refusal(n: usize, s: Splits) -> u8
+    ensures { λ r. ⌜ r ≡ wholeRefusal n s ⌝ }
+{
+    if n < 2 {
+        return 1;
+    }
+    if 64 < n {
+        return 1;
+    }
+    if !well_formed(2000000, n, s) {
+        return 8;
+    }
+    if s.taxa != n {
+        return 8;
+    }
+    0
 }

@@ -12,12 +12,8 @@ use Rattle.statement.specs.Matrix.{weightLimit}
 use Rattle.statement.specs.Rows.{wellFormed}
 use Rattle.statement.specs.Refusals.{outcomeOf, single, Passed, Fails, AllPassed, wholeListOff, outputOff, outputChecks}
 use Rattle.statement.proofs.Tests.{same-is, both-is, not-is}
-use Rattle.statement.proofs.Refused.{given-refused, accepted-exactly}
+use Rattle.statement.proofs.Refused.{single-fails, given-refused, accepted-exactly}
 use Rattle.statement.proofs.Accepted.{single-passed, taxa-passed}
-
--- a line whose place is always 0 fails where its test is true
-single-fails : (number : ℕ) (b : Bool) → b ≡ true → Fails (single number b) number 0
-single-fails number b e = record { named = refl; within = omega arith; bad = e; lowest = λ i l. absurd (omega arith) }
 
 pub record AcceptedOutput (n : ℕ) (s : Splits) (len wanted : ℕ) : Type 0 where
   pub two : 2 ≤ n

@@ -1,7 +1,7 @@
 -- EXACTLY WHEN, for every number of every call at once: an order of checks gives a number at a place exactly when the table says so. Assumes nothing.
 use Prim.Native.Nat.{ℕ, _≤_, _<_}
 use native.Mathlib.Omega.{arith}
-use mathlib.Core.Path.{_≡_, refl, sym, _∙_, ap, ap₂}
+use mathlib.Core.Path.{_≡_, refl, sym, _∙_, ap, ap₂, subst}
 use mathlib.Core.Logic.{_↔_, _≢_, _⊎_, inl, inr}
 use mathlib.Core.Bool.{Bool, true, false, cond}
 use mathlib.Core.List.{List, [], _∷_, _++_}
@@ -11,7 +11,7 @@ use Rattle.statement.specs.declared.Outcome.the-variants.{Done, Short, R
 use Rattle.statement.specs.Lowest.{lowestFrom, lowest, some}
 use Rattle.statement.specs.Refusals.{numberOf, placeOf, Check, single, outcomeOf, Passed, Fails, AllPassed, Given}
 use Rattle.statement.specs.Calls.{unlessRefused}
-use Rattle.statement.proofs.Lowest.{lowest-is, lowest-at, lowest-none, none-of, none-at}
+use Rattle.statement.proofs.Lowest.{Lowest, lowest-is, lowest-at, lowest-none, none-of, none-at}
 
 -- ONE CHECK of an order, where r is its lowest bad place: it refuses there, or the next check has the say
 module _ (c : Check) (cs : List Check) (r : ℕ) (e : r ≡ lowest (c .bad) (c .places)) where
@@ -39,12 +39,22 @@ pub none-left : outcomeOf [] ≡ Done
 unfolding outcomeOf
 none-left = refl
 
--- WHOLE ORDERS. A check that fails does so at one place, its lowest
+-- WHOLE ORDERS. A check whose lowest bad place is r
+module _ (c : Check) (r : ℕ) (is : r ≡ lowest (c .bad) (c .places)) where
+  place : Lowest (c .bad) 0 (c .places) r
+  place = subst (Lowest (c .bad) 0 (c .places)) (sym is) (lowest-is (c .bad) 0 (c .places))
+
+  pub passes : c .places ≤ r → Passed c
+  passes h i l = place .before i (omega arith) (omega arith)
+
+  pub fails : r < c .places → Fails c (c .number) r
+  fails h = record { named = refl; within = h; bad = place .hit (omega arith); lowest = λ i l. place .before i (omega arith) l }
+
+pub single-fails : (number : ℕ) (b : Bool) → b ≡ true → Fails (single number b) number 0
+single-fails number b e = record { named = refl; within = omega arith; bad = e; lowest = λ i l. absurd (omega arith) }
+
 fails-at : (c : Check) → some (c .bad) (c .places) ≡ true → Fails c (c .number) (lowest (c .bad) (c .places))
-fails-at c e =
-    let h = ltb-true (lowest (c .bad) (c .places)) (c .places) e in
-    let x = lowest-is (c .bad) 0 (c .places) in
-    record { named = refl; within = h; bad = x .hit (omega arith); lowest = λ i l. x .before i (omega arith) l }
+fails-at c e = fails c (lowest (c .bad) (c .places)) refl (ltb-true (lowest (c .bad) (c .places)) (c .places) e)
 
 pub given-refused : (checks : List Check) (number place : ℕ) → Given checks number place → outcomeOf checks ≡ Refused number place
 given-refused (c ∷ cs) number place (inl f) =

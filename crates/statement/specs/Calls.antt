@@ -2,7 +2,7 @@
 use Prim.Native.Nat.{ℕ, _+_, _*_, _-_}
 use mathlib.Core.Bool.{cond}
 use mathlib.Core.List.{List, [], _∷_, _++_}
-use lib.Dec.{ltb}
+use lib.Dec.{ltb, eqb}
 use lib.ListN.{length, drop}
 use Rattle.statement.specs.declared.Splits.{Splits}
 use Rattle.statement.specs.declared.Growth.{Growth}
@@ -16,9 +16,9 @@ use Rattle.statement.specs.Table.{tableWeight}
 use Rattle.statement.specs.Rows.{rowsOf, listOf}
 use Rattle.statement.specs.Growing.{matrixTrial, tableTrial, grown, wholeRun}
 use Rattle.statement.specs.Tree.{treeOf, rowsOfTree, pathSums}
-use Rattle.statement.specs.Bytes.{treeBody, treeIn, treeLength}
+use Rattle.statement.specs.Bytes.{fromBytes, treeBody, treeIn, treeLength}
 use Rattle.statement.specs.Refusals.{outcomeOf, listOff, matrixChecks, tableChecks, treeChecks, outputChecks}
-use Rattle.statement.specs.Record.{recordChecks, recordLength, lengthIn, recordOf, writingChecks}
+use Rattle.statement.specs.Record.{recordChecks, recordLength, lengthIn, recordOf, writingChecks, matrixKind, tableKind, kindIn, taxaIn, takenChecks, bodyIn}
 
 -- by the outcome of the checks: what a refusal leaves, else what the call gives
 abbrev pub unlessRefused : {A : Type 0} → Outcome → A → A → A
@@ -103,3 +103,10 @@ stepAt file place =
     cond (ltb place (length file))
     (stepBy (findRecord rest) (step.Found (place + 8) (lengthIn rest) (place + recordLength (lengthIn rest))))
     step.End
+
+-- THE MAIN JOB: a record is found, of a kind that is taken (matrix or table), and its body run; the body's own checks belong to the run
+unfoldable pub runRecord : List ℕ → Growth
+runRecord bytes =
+    let o = outcomeOf (takenChecks (matrixKind ∷ tableKind ∷ []) bytes) in
+    unlessRefused o (refusedRun o)
+    (cond (eqb (kindIn bytes) 1) (runMatrix (taxaIn bytes) (fromBytes (bodyIn bytes))) (runTable (taxaIn bytes) (bodyIn bytes)))

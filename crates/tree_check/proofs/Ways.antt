@@ -13,11 +13,10 @@ use Rattle.statement.specs.Lowest.{lowest, some}
 use Rattle.statement.specs.Tree.{root}
 use Rattle.statement.specs.Bytes.{fromBytes, treeIn, treeLength}
 use Rattle.statement.specs.Refusals.{Check, outcomeOf, Passed, Given, taxaOff, lengthOff, treeFits, treeOff, weightOff, walkOff, homeOff}
-use Rattle.statement.proofs.Refused.{given-refused, passed-done}
+use Rattle.statement.proofs.Refused.{passes, fails, single-fails, given-refused, passed-done}
 use Rattle.statement.proofs.Accepted.{single-passed, taxa-passed}
 use Rattle.tree_body.proofs.Body.{root-is, home-at}
 use Rattle.tree_check.specs.Parts.{linked, badWeight, firstChecks}
-use Rattle.tree_check.proofs.Search.{passes, fails, single-fails}
 use Rattle.tree_check.proofs.Walked.{walks-of-links}
 
 -- a byte behind the first, up to the last home, is above m

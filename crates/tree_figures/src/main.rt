@@ -149,7 +149,45 @@ fn trips() {
     print::say(b"\n");
 }
 
+// Path sums of matrix A's list into 16 entries: done, or the refusal.
+fn sums(n: usize, list: Splits) -> [u64; 16] {
+    let mut out = [0u64; 16];
+    match paths::sum_paths(n, list, &mut out) {
+        Outcome::Refused(no, place) => print::refusal(no, place),
+        Outcome::Short => print::say(b"short\n"),
+        Outcome::Done => print::say(b"done\n"),
+    }
+    out
+}
+
+fn print_sums(out: [u64; 16]) {
+    let mut e: usize = 0;
+    while e < 16 {
+        print::number(out[e]);
+        if e % 4 == 3 {
+            print::say(b"\n");
+        } else {
+            print::say(b" ");
+        }
+        e += 1;
+    }
+}
+
+// 20 between taxa 0 and 3; a list of another k gets 8; 16 entries are not 9 and leave the slice as it was.
+fn path_sums() {
+    let a = [0u32, 5, 9, 10, 5, 0, 10, 11, 9, 10, 0, 9, 10, 11, 9, 0];
+    let g = run::run_matrix(4, &a);
+    let list = g.list;
+    print_sums(sums(4, list));
+    print_sums(sums(5, list));
+    let three = [0u32, 1, 1, 1, 0, 3, 1, 3, 0];
+    let h = run::run_matrix(3, &three);
+    let small = h.list;
+    print_sums(sums(3, small));
+}
+
 fn main() {
     readings();
     trips();
+    path_sums();
 }

@@ -19,10 +19,9 @@ use Rattle.statement.specs.Bytes.{treeIn, treeLength, fromBytes}
 use Rattle.statement.specs.Refusals.{Check, outcomeOf, Passed, AllPassed, Given, edgeOff, twinOff, treeChecks}
 use Rattle.statement.specs.Calls.{emptyList, readTree}
 use Rattle.statement.proofs.Lowest.{lowest-same}
-use Rattle.statement.proofs.Refused.{either, given-refused, refused-exactly, passed-done}
+use Rattle.statement.proofs.Refused.{passes, fails, either, given-refused, refused-exactly, passed-done}
 use Rattle.tree_body.proofs.Body.{root-is}
 use Rattle.tree_check.specs.Parts.{placed, firstChecks}
-use Rattle.tree_check.proofs.Search.{passes, fails}
 use Rattle.tree_check.proofs.Walked.{same-cluster}
 use Rattle.tree_read.specs.Columns.{Clusters}
 use Rattle.tree_read.specs.Selected.{Edges, rowAt, sortedOf}

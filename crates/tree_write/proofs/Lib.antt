@@ -4,5 +4,4 @@ pub mod Body
 pub mod Searches
 pub mod GivenRows
 pub mod Stores
-pub mod Reply
 pub mod RoundTrip

@@ -27,10 +27,7 @@ use Rattle.statement.proofs.Enlarged.{WellRows}
 use Rattle.statement.proofs.Run.{rows-few}
 use Rattle.statement.proofs.Refused.{passed-done}
 use Rattle.statement.proofs.Accepted.{taxa-passed}
-use Rattle.statement.proofs.Outputs.{output-accepted}
-use Rattle.statement.proofs.WellFormed.{well-formed-is}
-use Rattle.statement.proofs.Allowance.{well-rows}
-use Rattle.tree_write.proofs.Reply.{accepted}
+use Rattle.splits_list.proofs.Whole.{taken-rows, done-taken, done-filled}
 use Rattle.tree_write.proofs.Smallest.{home-smallest, free-at}
 use Rattle.tree_write.proofs.Clusters.{cluster-of-list, list-tree-list}
 use Rattle.tree_write.proofs.Body.{Sized, tree-size, body-length, body-vertex, vertices-within, tree-in-body}
@@ -144,9 +141,9 @@ module _ (n : ℕ) (rows : List Row) (two : 2 ≤ n) (few : n ≤ 64) (well : We
 -- what the writer wrote of a list is read back as that list
 pub write-read : (n : ℕ) (s : Splits) (out : List ℕ) → length (s .clusters) ≡ 125 → length (s .weights) ≡ 125
     → writeTree n s out ≡ Done → readTree n (treeWritten n s out) ≡ record { outcome = Done; list = listOf n (rowsOf s) }
-unfolding writeTree
+unfolding writeTree treeWritten
 write-read n s out hc hw done =
-    let ok = output-accepted n s (length out) (treeLength n (s .rows)) .0 done in
-    let form = well-formed-is weightLimit n s hc hw (ok .few) .0 (ok .well) in
-    let rows : WellRows weightLimit n (rowsOf s) = subst (λ (k : ℕ). WellRows weightLimit k (rowsOf s)) (ok .whole) (well-rows weightLimit n s form) in
-    ap (readTree n) (accepted n s out ok .1) ∙ written-read n (rowsOf s) (ok .two) (ok .few) rows
+    let body = treeBody (treeOf n (rowsOf s)) in
+    let ok = done-taken n s out (treeLength n (s .rows)) body done in
+    ap (readTree n) (done-filled n s out (treeLength n (s .rows)) body done)
+    ∙ written-read n (rowsOf s) (ok .two) (ok .few) (taken-rows n s hc hw ok)

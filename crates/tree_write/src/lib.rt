@@ -123,17 +123,9 @@ pub fn write_tree(n: usize, s: Splits, out: &mut [u8]) -> Outcome
     ensures { λ r. ⌜ r ≡ writeTree n s (now (out .entry)) ⌝ }
     ensures { λ _. ⌜ now (out .exit) ≡ treeWritten n s (now (out .entry)) ⌝ }
 {
-    if n < 2 {
-        return Outcome::Refused(1, 0);
-    }
-    if 64 < n {
-        return Outcome::Refused(1, 0);
-    }
-    if !splits_list::well_formed(2000000, n, s) {
-        return Outcome::Refused(8, 0);
-    }
-    if s.taxa != n {
-        return Outcome::Refused(8, 0);
+    let refusal = splits_list::whole_refusal(n, s);
+    if refusal != 0 {
+        return Outcome::Refused(refusal, 0);
     }
     let m = s.rows;
     if out.len() != 1 + n + 5 * m {

@@ -1,91 +1,77 @@
--- `tree_write::write_tree` meets its contract: each way out is a law of the reply. Assumes nothing.
+-- `tree_write::write_tree` meets its contract: each way out is a law of such calls. Assumes nothing.
+use Prim.Native.Nat.{_≤_}
 use native.Mathlib.Omega.{arith}
 use mathlib.Core.Path.{_≡_, sym, _∙_}
-use mathlib.Core.Bool.{true}
 use lib.ListN.{length}
 use borrow.Author.Needs.{needs}
-use borrow.Author.Tests.{lt-ltb, le-ltb, ne-eqb, not-true, not-false}
 use Rattle.statement.specs.Matrix.{weightLimit}
-use Rattle.statement.specs.Rows.{wellFormed, WellFormed}
-use Rattle.statement.proofs.WellFormed.{well-formed-is}
-use Rattle.tree_write.proofs.Reply.{taxa-off, list-off, size-off, written}
+use Rattle.statement.specs.Rows.{WellFormed}
+use Rattle.statement.specs.Calls.{writeTree, treeWritten}
+use Rattle.splits_list.specs.Whole.{wholeRefusal}
+use Rattle.splits_list.proofs.Whole.{taken, taken-list, list-off, size-off, accepted}
 use Rattle.tree_write.proofs.write_tree.Statement.{statement}
 use Rattle.tree_write.proofs.write_tree.Tie as tie
 
+whole-refusal-requires : tie.Need-whole-refusal-requires
+whole-refusal-requires c κs = search needs
+
 returns : tie.Need-returns
-returns c = let a = c .before .before .args in taxa-off (a .n) (a .s) (a .out .now) (rw (lt-ltb (a .n) 2 (c .if1 .taken)))
+unfolding writeTree treeWritten
+returns c =
+    let f = c .before .whole-refusal in
+    let a = c .before .before .before .args in
+    list-off (a .n) (a .s) (a .out .now) _ _ (f .result) (f .ensures) (c .if1 .taken)
+
+-- past the checks of the list
+none : (c : tie.Else1) → let a = c .before .before .before .args in wholeRefusal (a .n) (a .s) ≡ 0
+none c = sym (c .before .whole-refusal .ensures) ∙ c .if1 .left
+
+list : (c : tie.Else1) → let a = c .before .before .before .args in (a .n ≤ 64) × WellFormed weightLimit (a .n) (a .s)
+list c =
+    let a = c .before .before .before .args in
+    let hc : length (a .s .clusters) ≡ 125 = search needs in
+    let hw : length (a .s .weights) ≡ 125 = search needs in
+    let ok = taken (a .n) (a .s) (none c) in
+    (ok .few, taken-list (a .n) (a .s) hc hw ok)
+
+add-if2 : tie.Need-add-if2
+add-if2 c = omega (arith, list c)
+
+mul-if2 : tie.Need-mul-if2
+mul-if2 c = omega (arith, list c)
+
+add-if2-2 : tie.Need-add-if2-2
+add-if2-2 c = omega (arith, list c)
 
 returns-2 : tie.Need-returns-2
+unfolding writeTree treeWritten
 returns-2 c =
-    let a = c .before .before .before .args in
-    taxa-off (a .n) (a .s) (a .out .now) (rw (le-ltb (a .n) 2 (omega arith), lt-ltb 64 (a .n) (omega arith)))
-
-well-formed-requires : tie.Need-well-formed-requires
-well-formed-requires c κs = search needs
-
-returns-3 : tie.Need-returns-3
-returns-3 c =
-    let a = c .before .before .before .before .before .args in
-    list-off (a .n) (a .s) (a .out .now) (omega arith) (omega arith) (rw (sym (c .before .well-formed .ensures) ∙ not-true _ (c .if3 .taken)))
-
--- past the test of the list
-well : (c : tie.Else3) → let a = c .before .before .before .before .before .args in wellFormed weightLimit (a .n) (a .s) ≡ true
-well c = sym (c .before .well-formed .ensures) ∙ not-false _ (c .if3 .left)
-
-list : (c : tie.Else3) → let a = c .before .before .before .before .before .args in WellFormed weightLimit (a .n) (a .s)
-list c =
-    let s = c .before .before .before .before .before in
-    let hc : length (s .args .s .clusters) ≡ 125 = search needs in
-    let hw : length (s .args .s .weights) ≡ 125 = search needs in
-    well-formed-is weightLimit (s .args .n) (s .args .s) hc hw (omega arith) .0 (well c)
-
-returns-4 : tie.Need-returns-4
-returns-4 c =
-    let a = c .before .before .before .before .before .before .before .args in
-    list-off (a .n) (a .s) (a .out .now) (omega arith) (omega arith) (rw (well (c .before .before), ne-eqb (a .s .taxa) (a .n) (c .if4 .taken)))
-
-add-if5 : tie.Need-add-if5
-add-if5 c = search needs
-
-mul-if5 : tie.Need-mul-if5
-mul-if5 c = omega (arith, list (c .before .before))
-
-add-if5-2 : tie.Need-add-if5-2
-add-if5-2 c = omega (arith, list (c .before .before))
-
-returns-5 : tie.Need-returns-5
-returns-5 c =
-    let a = c .before .before .before .before .before .before .before .before .args in
-    size-off (a .n) (a .s) (a .out .now) (omega arith) (omega arith) (well (c .before .before .before)) (c .before .if4 .left) (c .if5 .taken)
+    let a = c .before .before .before .before .args in size-off (a .n) (a .s) (a .out .now) _ _ (none (c .before)) (c .if2 .taken)
 
 put-tree-requires : tie.Need-put-tree-requires
-put-tree-requires c κs = (omega arith, list (c .before .before .before .before), c .before .if5 .left)
+put-tree-requires c κs = let (few, well) = list (c .before .before) in (few, well, c .before .if2 .left)
 
 same-length : tie.Need-same-length
 same-length c = search needs
 
-returns-6 : tie.Need-returns-6
-returns-6 c =
-    let five = c .before .before .before .before in
-    let here = five .before .before .before in
-    let a = here .before .before .before .before .before .args in
-    written (a .n) (a .s) (a .out .now)
-    (record { two = omega arith; few = omega arith; well = well here; whole = five .before .if4 .left; size = five .if5 .left })
-    (c .before .before .put-tree .last .1 .1 .0) (c .before .before .put-tree .ensures)
+returns-3 : tie.Need-returns-3
+unfolding writeTree treeWritten
+returns-3 c =
+    let call = c .before .before .put-tree in
+    let two = c .before .before .before .before in
+    let a = two .before .before .before .before .args in
+    accepted (a .n) (a .s) (a .out .now) _ _ (none (two .before)) (two .if2 .left) (call .last .1 .1 .0) (call .ensures)
 
 pub write-tree-spec : {M : Type 1} → statement M
 write-tree-spec =
     tie.close
     (tie.spec
+    whole-refusal-requires
     returns
+    add-if2
+    mul-if2
+    add-if2-2
     returns-2
-    well-formed-requires
-    returns-3
-    returns-4
-    add-if5
-    mul-if5
-    add-if5-2
-    returns-5
     put-tree-requires
     same-length
-    returns-6)
+    returns-3)

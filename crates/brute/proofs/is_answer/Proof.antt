@@ -1,22 +1,22 @@
--- `brute::is_table_answer` is safe, ends, and says yes only to a list of n taxa. Assumes nothing.
+-- `brute::is_answer` is safe, ends, and says yes only to a list of n taxa. Assumes nothing.
 use Prim.Native.Nat.{_-_}
 use native.Mathlib.Omega.{arith}
 use mathlib.Core.Bool.{false≢true}
 use borrow.Author.Needs.{needs}
-use Rattle.brute.proofs.is_table_answer.Statement.{statement}
-use Rattle.brute.proofs.is_table_answer.Tie as tie
+use Rattle.brute.proofs.is_answer.Statement.{statement}
+use Rattle.brute.proofs.is_answer.Tie as tie
 
 abbrev Inv-loop : tie.InvT-loop
-Inv-loop n bytes list row₀ c₀ row c = Unit {0}
+Inv-loop by-matrix n d bytes list row₀ c₀ row c = Unit {0}
 
 abbrev μ-loop : tie.MeasureT-loop
-μ-loop n bytes list row₀ c₀ row c = 128 - c
+μ-loop by-matrix n d bytes list row₀ c₀ row c = 128 - c
 
 loop-holds : tie.Need-loop-holds Inv-loop μ-loop
 loop-holds c = search needs
 
-table-row-after-requires : tie.Need-table-row-after-requires Inv-loop μ-loop
-table-row-after-requires c κs = search needs
+row-after-requires : tie.Need-row-after-requires Inv-loop μ-loop
+row-after-requires c κs = search needs
 
 add-c : tie.Need-add-c Inv-loop μ-loop
 add-c c = search needs
@@ -33,14 +33,14 @@ returns c e = absurd (false≢true e)
 returns-2 : tie.Need-returns-2 Inv-loop μ-loop
 returns-2 c e = omega arith
 
-pub is-table-answer-spec : {M : Type 1} → statement M
-is-table-answer-spec =
+pub is-answer-spec : {M : Type 1} → statement M
+is-answer-spec =
     tie.close
     (tie.spec
     Inv-loop
     μ-loop
     loop-holds
-    table-row-after-requires
+    row-after-requires
     add-c
     loop-less
     loop-again

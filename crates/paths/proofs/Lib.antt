@@ -1,0 +1,4 @@
+pub mod Sums
+pub mod ListRows
+pub mod ByRows
+pub mod Entries

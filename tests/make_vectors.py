@@ -1,0 +1,126 @@
+#!/usr/bin/env python3
+"""Writes crates/vectors/data and crates/vectors/stdout: records, sound and damaged, and what document 01 says of each.
+
+Everything here is worked out from document 01 and shares nothing with the crates: lists of up to 7 taxa by brute force over every split and every four,
+the two large ones in closed form (taxa that hang one after the other on a line have all 2n-3 splits)."""
+import itertools, math, os, random, struct
+
+HERE = os.path.dirname(os.path.abspath(__file__))
+OUT = os.path.join(HERE, '..', 'crates', 'vectors')
+
+def record(kind, n, body, mark=b'Sp', length=None, pad=b'\0', off=0):
+    b = mark + bytes([kind, n]) + struct.pack('<I', len(body) if length is None else length) + body
+    if len(body) % 2:
+        b += pad
+    total = sum(struct.unpack('<%dH' % (len(b) // 2), b)) & 0xffff
+    return b + struct.pack('<H', (off - total) & 0xffff)
+
+def matrix(rows):
+    return b''.join(struct.pack('<I', x) for r in rows for x in r)
+
+def supported_matrix(d, k):
+    out = []
+    for c in range(2, 2 ** k, 2):
+        v = [i for i in range(k) if c >> i & 1]
+        u = [i for i in range(k) if not c >> i & 1]
+        w = min(min(d[a][x] + d[b][y], d[a][y] + d[b][x]) - d[a][b] - d[x][y] for a in u for b in u for x in v for y in v)
+        if w > 0:
+            out.append((c, w))
+    return out
+
+def supported_table(t, k):
+    def stands(a, b, x, y):
+        s = sorted((a, b, x, y))
+        byte = t[s[0] + math.comb(s[1], 2) + math.comb(s[2], 3) + math.comb(s[3], 4)]
+        pairs = {frozenset((a, b)), frozenset((x, y))}
+        return byte and pairs == {frozenset((s[0], s[byte])), frozenset(set(s) - {s[0], s[byte]})}
+    out = []
+    for c in range(2, 2 ** k, 2):
+        v = [i for i in range(k) if c >> i & 1]
+        u = [i for i in range(k) if not c >> i & 1]
+        if all(stands(a, b, x, y) for a, b in itertools.combinations(u, 2) for x, y in itertools.combinations(v, 2)):
+            out.append((c, 1))
+    return out
+
+def listing(n, rows, trials):
+    return 'taxa %d trials %d\n' % (n, trials) + ''.join('%d %d\n' % r for r in rows)
+
+def run(n, supported):
+    return listing(n, supported(n), sum(2 * len(supported(k)) + 1 for k in range(1, n)))
+
+def line(n, single, inner):  # taxa one after the other: every taxon by itself, and every cut of the line
+    rows = {1 << i: single(i) for i in range(1, n)}
+    for i in range(n - 1):
+        rows.setdefault(sum(1 << j for j in range(i + 1, n)), single(0) if i == 0 else inner)
+    return listing(n, sorted(rows.items()), 2 * n * n - 7 * n + 7)
+
+A = [[0, 5, 9, 10], [5, 0, 10, 11], [9, 10, 0, 9], [10, 11, 9, 0]]
+def with_entry(i, j, x):
+    m = [list(r) for r in A]
+    m[i][j] = x
+    return m
+
+cases = []
+def add(what, bytes_, says):
+    cases.append((what, bytes_, says))
+
+a = record(1, 4, matrix(A))
+add('matrix A', a, run(4, lambda k: supported_matrix(A, k)))
+add('what follows the first record is ignored', a + b'more', run(4, lambda k: supported_matrix(A, k)))
+add('two taxa at distance 0', record(1, 2, matrix([[0, 0], [0, 0]])), listing(2, [], 1))
+add('two taxa at the largest distance', record(1, 2, matrix([[0, 1000000], [1000000, 0]])), listing(2, [(2, 2000000)], 1))
+comb = [[0 if i == j else abs(i - j) + 2 for j in range(64)] for i in range(64)]
+add('64 taxa on a line', record(1, 64, matrix(comb)), line(64, lambda i: 4 if i in (0, 63) else 2, 2))
+add('a table of 3 taxa: no byte', record(2, 3, b''), listing(3, [(2, 1), (4, 1), (6, 1)], 4))
+add('a table of 4 taxa: one byte and a pad', record(2, 4, b'\2'), run(4, lambda k: supported_table(b'\2', k)))
+rng = random.Random(1)
+for n in (5, 6, 7):
+    t = bytes(rng.choice((0, 1, 1, 1, 2, 3)) for _ in range(math.comb(n, 4)))
+    add('a table of %d taxa' % n, record(2, n, t), run(n, lambda k, t=t: supported_table(t, k)))
+    d = [[0] * n for _ in range(n)]
+    for i, j in itertools.combinations(range(n), 2):
+        d[i][j] = d[j][i] = rng.randrange(40, 60)
+    add('a matrix of %d taxa' % n, record(1, n, matrix(d)), run(n, lambda k, d=d: supported_matrix(d, k)))
+add('a table of 36 taxa on a line, the most for a program', record(2, 36, b'\1' * math.comb(36, 4)), line(36, lambda i: 1, 1))
+add('a table of 37 taxa is cut', record(2, 37, b'\1' * math.comb(37, 4)), 'refused 16 at 0\n')
+add('n = 1', record(1, 1, matrix([[0]])), 'refused 1 at 0\n')
+add('n = 65', record(2, 65, b''), 'refused 1 at 0\n')
+add('2: a length that does not match n', record(1, 4, matrix(A)[:-4]), 'refused 2 at 0\n')
+add('2 comes before the second 16', record(1, 4, matrix(A), length=65)[:20], 'refused 2 at 0\n')
+add('3: diagonal not 0, at entry 10', record(1, 4, matrix(with_entry(2, 2, 1))), 'refused 3 at 10\n')
+add('4: a distance above 1,000,000, at entry 3', record(1, 4, matrix(with_entry(0, 3, 1000001))), 'refused 4 at 3\n')
+add('5: a pair differs, at the one of lower index', record(1, 4, matrix(with_entry(3, 1, 12))), 'refused 5 at 7\n')
+add('6: a table byte above 3', record(2, 5, b'\1\1\1\4\1'), 'refused 6 at 3\n')
+add('15: wrong mark', record(1, 4, matrix(A), mark=b'SP'), 'refused 15 at 0\n')
+add('16: no byte', b'', 'refused 16 at 0\n')
+add('16: seven bytes, before 15', b'XXXXXXX', 'refused 16 at 0\n')
+add('16: the last byte is cut off', a[:-1], 'refused 16 at 0\n')
+add('17: unknown kind', record(9, 4, matrix(A)), 'refused 17 at 0\n')
+tree = bytes([1, 1, 1, 0]) + struct.pack('<I', 2)
+add('17: a tree record, which is not taken', record(3, 2, tree), 'refused 17 at 0\n')
+add('18 before 17: a tree record with a wrong sum', record(3, 2, tree, off=1), 'refused 18 at 0\n')
+add('18: wrong sum', record(1, 4, matrix(A), off=1), 'refused 18 at 0\n')
+add('18: pad not zero', record(2, 4, b'\2', pad=b'\1'), 'refused 18 at 0\n')
+
+# a file of records, walked: sound, odd body, damaged, and one behind the damaged one, which is not reached
+parts = [a, record(2, 4, b'\2'), record(1, 4, matrix(A), off=7), a]
+walked, at = '', 0
+for p in parts[:2]:
+    length = struct.unpack('<I', p[4:8])[0]
+    walked += 'body at %d, %d bytes\n' % (at + 8, length)
+    at += len(p)
+walked += 'refused 18 at 0\n'
+
+os.makedirs(os.path.join(OUT, 'data'), exist_ok=True)
+for f in os.listdir(os.path.join(OUT, 'data')):
+    os.remove(os.path.join(OUT, 'data', f))
+with open(os.path.join(OUT, 'stdout'), 'w') as out:
+    for i, (what, b, says) in enumerate(cases):
+        with open(os.path.join(OUT, 'data', 'v%02d' % i), 'wb') as f:
+            f.write(b)
+        out.write('v%02d\n' % i + says)
+    for name, b, says in (('walk', b''.join(parts), walked), ('end', parts[0], 'body at 8, 64 bytes\nend\n'), ('none', b'', 'end\n')):
+        with open(os.path.join(OUT, 'data', name), 'wb') as f:
+            f.write(b)
+        out.write(name + '\n' + says)
+print(len(cases), 'records and 3 files')
