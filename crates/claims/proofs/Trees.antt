@@ -1,19 +1,18 @@
 -- DEMAND 2, of trees, over the two calls: written and read back; read in any numbering and written in row order. Assumes nothing.
-use Prim.Native.Nat.{ℕ, _+_, _-_, _*_, _≤_, _<_}
+use Prim.Native.Nat.{ℕ, _+_, _-_, _*_, _≤_}
 use native.Mathlib.Omega.{arith}
-use mathlib.Core.Path.{_≡_, refl, sym, _∙_, ap, subst}
-use mathlib.Core.Logic.{_⊎_, inl, inr}
+use mathlib.Core.Path.{_≡_, refl, sym, ap, subst}
 use mathlib.Core.Bool.{true}
-use mathlib.Core.List.{List, _++_}
+use mathlib.Core.List.{List}
 use lib.ListN.{length, replicate, length-append, length-map, length-replicate}
 use Rattle.statement.specs.declared.Splits.{Splits}
 use Rattle.statement.specs.declared.Reading.{Reading}
 use Rattle.statement.specs.declared.Outcome.the-variants.{Done}
 use Rattle.statement.specs.Matrix.{weightLimit}
-use Rattle.statement.specs.Rows.{Row, clusters, weights, rowsOf, filled, listOf, wellFormed, WellFormed}
+use Rattle.statement.specs.Rows.{Row, clusters, weights, filled, listOf, wellFormed, WellFormed}
 use Rattle.statement.specs.Tree.{treeOf, rowsOfTree}
-use Rattle.statement.specs.Bytes.{treeBody, treeIn, treeLength}
-use Rattle.statement.specs.Refusals.{outcomeOf, AllPassed, Given, treeChecks}
+use Rattle.statement.specs.Bytes.{treeIn, treeLength}
+use Rattle.statement.specs.Refusals.{AllPassed, treeChecks}
 use Rattle.statement.specs.Calls.{writeTree, treeWritten, readTree}
 use Rattle.statement.proofs.Lists.{rows-of-list}
 use Rattle.statement.proofs.Run.{rows-few}
@@ -21,10 +20,9 @@ use Rattle.statement.proofs.Allowance.{rows-well}
 use Rattle.statement.proofs.WellFormed.{well-formed-is}
 use Rattle.statement.proofs.Enlarged.{WellRows}
 use Rattle.statement.proofs.Accepted.{taxa-passed}
-use Rattle.statement.proofs.Refused.{either, passed-done, given-refused}
+use Rattle.statement.proofs.Refused.{passed-done}
 use Rattle.statement.proofs.Outputs.{output-accepted}
 use Rattle.tree_write.proofs.RoundTrip.{write-read, tree-of-body}
-use Rattle.tree_read.specs.SameTree.{SameTree, rowPlace}
 use Rattle.tree_read.proofs.Rows.{read-well}
 use Rattle.tree_read.proofs.Renumbered.{read-same}
 use Rattle.paths.proofs.Entries.{sums-written}

@@ -19,7 +19,8 @@ use Rattle.statement.proofs.Accepted.{single-passed, taxa-passed}
 use Rattle.record_find.specs.Stretch.{bodyStart}
 
 -- a line whose place is always 0 refuses where it is not passed
-pub refused-unless : (number : ℕ) (bad : Bool) (cs : List Check) {A : Type 0} → Passed (single number bad) ↔ A → (A → ⊥) → outcomeOf (single number bad ∷ cs) ≡ Refused number 0
+pub refused-unless : (number : ℕ) (bad : Bool) (cs : List Check) {A : Type 0} → Passed (single number bad) ↔ A → (A → ⊥)
+    → outcomeOf (single number bad ∷ cs) ≡ Refused number 0
 refused-unless number bad cs f h = refused-single number bad cs (go bad refl)
   where
     go : (b : Bool) → bad ≡ b → b ≡ true

@@ -1,9 +1,9 @@
 -- Which of the kinds that a call takes a number is. Assumes nothing.
 use Prim.Native.Nat.{ℕ}
-use mathlib.Core.Path.{_≡_, refl, sym, _∙_}
+use mathlib.Core.Path.{_≡_, refl}
 use mathlib.Core.Logic.{_≢_}
 use mathlib.Core.Bool.{Bool, true, false}
-use mathlib.Core.List.{List, _∷_}
+use mathlib.Core.List.{List}
 use borrow.Author.Tests.{eq-eqb, ne-eqb}
 use Rattle.statement.specs.Record.{Kind, isKind}
 use Rattle.record_find.specs.Taken.{ifTaken}

@@ -2,12 +2,11 @@
 // Document 01, "Records in a file" and "Refusal numbers".
 use statement::Outcome;
 ghost use mathlib.Core.Path.{_≡_};
-ghost use mathlib.Core.Bool.{_&&_};
 ghost use Prim.Native.Nat.{_+_, _*_, _^_, _≤_, _<_};
 ghost use lib.Dec.{eqb};
-ghost use lib.ListN.{length, getD, take};
+ghost use lib.ListN.{length};
 ghost use Rattle.statement.specs.Bytes.{wordSum};
-ghost use Rattle.statement.specs.Refusals.{numberOf, outcomeOf, treeFits};
+ghost use Rattle.statement.specs.Refusals.{numberOf, outcomeOf};
 ghost use Rattle.statement.specs.Record.{kinds, isKind, fitsKind, lengthIn, recordLength, padIn, takenChecks, bodyIn};
 ghost use Rattle.statement.specs.Calls.{findRecord};
 ghost use Rattle.record_find.specs.Taken.{kindsTaken};
@@ -78,21 +77,6 @@ fn takes(taken: Taken, kind: u8) -> bool
     false
 }
 
-// Whether a tree of n taxa has a body of this length for some m from 0 to 2n-3.
-fn tree_fits(n: usize, len: usize) -> bool
-    requires { ⌜ (2 ≤ n) × (n ≤ 64) ⌝ }
-    ensures { λ r. ⌜ r ≡ treeFits n len ⌝ }
-{
-    if len <= n {
-        return false;
-    }
-    let rest = len - n - 1;
-    if rest % 5 != 0 {
-        return false;
-    }
-    rest / 5 < 2 * n - 2
-}
-
 // Whether n taxa allow a body of this length in a record of this kind.
 pub fn length_fits(kind: u8, n: usize, len: usize) -> bool
     requires { ⌜ (2 ≤ n) × (n ≤ 64) ⌝ }
@@ -105,7 +89,7 @@ pub fn length_fits(kind: u8, n: usize, len: usize) -> bool
         return len == table::fours(n);
     }
     if kind == 3 {
-        return tree_fits(n, len);
+        return tree_check::tree_fits(n, len);
     }
     false
 }

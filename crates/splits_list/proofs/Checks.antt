@@ -15,7 +15,7 @@ use borrow.Author.Count.{below-more}
 use borrow.Author.Tests.{lt-ltb, le-ltb, eq-eqb, ne-eqb}
 use Rattle.statement.specs.declared.Splits.{Splits}
 use Rattle.statement.specs.Cluster.{Split}
-use Rattle.statement.specs.Lowest.{some}
+use Rattle.statement.specs.Lowest.{somewhere}
 use Rattle.statement.specs.Rows.{conflicts, fits, clashes, badRow}
 use Rattle.statement.proofs.Mask.{conflict-mask}
 use Rattle.statement.proofs.Tests.{fails-is}
@@ -28,8 +28,8 @@ shifted k c = go (decLt c (2 ^ k))
     go : Dec (c < 2 ^ k) → eqb (c / 2 ^ k) 0 ≡ ltb c (2 ^ k)
     go (yes l) = eq-eqb (c / 2 ^ k) 0 (div-eq-of-lt l) ∙ sym (lt-ltb c (2 ^ k) l)
     go (no l) =
-        let some : c / 2 ^ k ≡ 0 → ⊥ = λ e. omega (arith, div-lt-iff-lt-mul {k = 2 ^ k} {x = c} {y = 1} (pow-pos k) .0 (omega arith)) in
-        ne-eqb (c / 2 ^ k) 0 some ∙ sym (le-ltb c (2 ^ k) (omega arith))
+        let more : c / 2 ^ k ≡ 0 → ⊥ = λ e. omega (arith, div-lt-iff-lt-mul {k = 2 ^ k} {x = c} {y = 1} (pow-pos k) .0 (omega arith)) in
+        ne-eqb (c / 2 ^ k) 0 more ∙ sym (le-ltb c (2 ^ k) (omega arith))
 
 -- two splits conflict exactly where their common group is neither empty nor one of the two clusters
 module _ (k a b : ℕ) (pk : 0 < k) (sa : Split k a) (sb : Split k b) where
@@ -76,7 +76,7 @@ module _ (most : ℕ) (s : Splits) (i : ℕ) where
   here = fits most (s .taxa) (getD (s .clusters) i 0) (getD (s .weights) i 0)
 
   abbrev pub against : Bool
-  against = some (clashes (s .taxa) (s .clusters) i) i
+  against = somewhere (clashes (s .taxa) (s .clusters) i) i
 
   pub bad-row : {b : Bool} → here ≡ b → badRow most s i ≡ (not b || against)
   unfolding badRow fits clashes

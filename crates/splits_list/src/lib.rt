@@ -7,7 +7,7 @@ ghost use Prim.Native.Nat.{ℕ, _*_, _-_, _^_, _<_, _≤_};
 ghost use lib.Dec.{ltb};
 ghost use lib.ListN.{getD};
 ghost use Rattle.statement.specs.Cluster.{Split};
-ghost use Rattle.statement.specs.Lowest.{some, none};
+ghost use Rattle.statement.specs.Lowest.{somewhere, nowhere};
 ghost use Rattle.statement.specs.Rows.{listOf, conflicts, fits, clashes, badRow, wellFormed};
 ghost use Rattle.splits_list.specs.Pushed.{pushed};
 ghost use Rattle.splits_list.specs.Whole.{wholeRefusal};
@@ -103,7 +103,7 @@ fn conflict(a: u64, b: u64) -> bool
 fn row_clashes(k: usize, clusters: &[u64; 125], i: usize) -> bool
     requires { ⌜ (i < 125) × (0 < k) ⌝ }
     requires { ⌜ ((j : ℕ) → j ≤ i → Split k (getD (now clusters) j 0)) ⌝ }
-    ensures { λ r. ⌜ r ≡ some (clashes k (now (clusters .entry)) i) i ⌝ }
+    ensures { λ r. ⌜ r ≡ somewhere (clashes k (now (clusters .entry)) i) i ⌝ }
 {
     let c = clusters[i];
     let mut j: usize = 0;
@@ -123,7 +123,7 @@ fn row_clashes(k: usize, clusters: &[u64; 125], i: usize) -> bool
 // Every row is good, by itself and against the rows before it.
 fn rows_fit(most: u32, s: Splits) -> bool
     requires { ⌜ (0 < s .taxa) × (s .taxa ≤ 64) × (s .rows ≤ 125) ⌝ }
-    ensures { λ r. ⌜ r ≡ none (badRow most s) (s .rows) ⌝ }
+    ensures { λ r. ⌜ r ≡ nowhere (badRow most s) (s .rows) ⌝ }
 {
     let k = s.taxa;
     let rows = s.rows;

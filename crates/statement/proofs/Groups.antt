@@ -9,7 +9,7 @@ use lib.Dec.{eqb}
 use lib.Pow.{pow-pos}
 use borrow.Author.Tests.{eqb-true, eqb-false, eq-eqb, ne-eqb, not-true}
 use Rattle.statement.specs.Cluster.{bit, In, groupOf}
-use Rattle.statement.specs.Lowest.{some}
+use Rattle.statement.specs.Lowest.{somewhere}
 use Rattle.statement.specs.Tree.{strictlyIn}
 use Rattle.statement.proofs.Bits.{lt-bit, bit-plus, bit-past, bit-top}
 use Rattle.statement.proofs.Tests.{both-is, none-is, unless-is}
@@ -67,7 +67,7 @@ part-le n a b la part = go (decLt b a)
 pub strictly-is : (n a b : ℕ) → (strictlyIn n a b ≡ true) ↔ Strictly n a b
 strictly-is n a b =
     let lacked : ℕ → Bool = λ i. eqb (bit a i) 1 && eqb (bit b i) 0 in
-    let all = both-is (Iff·trans (not-true (some lacked n), ap not) (none-is lacked n here)) ((λ e. eqb-false a b (not-true _ e)), (λ o. ap not (ne-eqb a b o))) in
+    let all = both-is (Iff·trans (not-true (somewhere lacked n), ap not) (none-is lacked n here)) ((λ e. eqb-false a b (not-true _ e)), (λ o. ap not (ne-eqb a b o))) in
     ((λ e. record { part = all .0 e .0; other = all .0 e .1 }), (λ s. all .1 (s .part, s .other)))
   where
     inside : (i : ℕ) → (eqb (bit b i) 0 ≡ false) ↔ In b i

@@ -7,7 +7,7 @@ use mathlib.Core.Path.{_≡_, refl, sym, _∙_, ap}
 use mathlib.Core.Bool.{Bool, true, false, cond, true≢false}
 use borrow.Author.Count.{below-none, below-more}
 use borrow.Author.Tests.{ltb-true, ltb-false, lt-ltb, le-ltb}
-use Rattle.statement.specs.Lowest.{lowestFrom, lowest, some}
+use Rattle.statement.specs.Lowest.{lowestFrom, lowest, somewhere}
 
 -- WHAT IT IS: within its range, the test holds there, and nowhere before
 pub record Lowest (p : ℕ → Bool) (i m r : ℕ) : Type 0 where
@@ -60,28 +60,28 @@ lowest-same p q i m e =
     (lowest-is q i m)
 
 -- SOME place passes the test
-pub some-at : (p : ℕ → Bool) (m i : ℕ) → i < m → p i ≡ true → some p m ≡ true
+pub some-at : (p : ℕ → Bool) (m i : ℕ) → i < m → p i ≡ true → somewhere p m ≡ true
 some-at p m i l e = go (decLt (lowest p m) m)
   where
-    go : Dec (lowest p m < m) → some p m ≡ true
+    go : Dec (lowest p m < m) → somewhere p m ≡ true
     go (yes h) = lt-ltb (lowest p m) m h
     go (no h) = absurd (true≢false (sym e ∙ lowest-is p 0 m .before i (omega arith) (omega arith)))
 
-pub some-of : (p : ℕ → Bool) (m : ℕ) → some p m ≡ true → (i : ℕ) × (i < m) × (p i ≡ true)
+pub some-of : (p : ℕ → Bool) (m : ℕ) → somewhere p m ≡ true → (i : ℕ) × (i < m) × (p i ≡ true)
 some-of p m e = let h = ltb-true (lowest p m) m e in (lowest p m, h, lowest-is p 0 m .hit (omega arith))
 
-pub none-of : (p : ℕ → Bool) (m : ℕ) → some p m ≡ false → (i : ℕ) → i < m → p i ≡ false
+pub none-of : (p : ℕ → Bool) (m : ℕ) → somewhere p m ≡ false → (i : ℕ) → i < m → p i ≡ false
 none-of p m e i l = lowest-is p 0 m .before i (omega arith) (omega (arith, ltb-false (lowest p m) m e))
 
-pub none-at : (p : ℕ → Bool) (m : ℕ) → ((i : ℕ) → i < m → p i ≡ false) → some p m ≡ false
+pub none-at : (p : ℕ → Bool) (m : ℕ) → ((i : ℕ) → i < m → p i ≡ false) → somewhere p m ≡ false
 none-at p m f = go (decLt (lowest p m) m)
   where
-    go : Dec (lowest p m < m) → some p m ≡ false
+    go : Dec (lowest p m < m) → somewhere p m ≡ false
     go (yes h) = absurd (true≢false (sym (lowest-is p 0 m .hit (omega arith)) ∙ f (lowest p m) h))
     go (no h) = le-ltb (lowest p m) m (omega arith)
 
 -- where some place passes, the lowest one does; where none does it is the count
-pub lowest-none : (p : ℕ → Bool) (m : ℕ) → some p m ≡ false → lowest p m ≡ m
+pub lowest-none : (p : ℕ → Bool) (m : ℕ) → somewhere p m ≡ false → lowest p m ≡ m
 lowest-none p m e = le-antisymm (let h = lowest-is p 0 m .to in omega arith) (ltb-false (lowest p m) m e)
 
 -- A LOOP that looks for it among the places below m, and has passed those below i

@@ -1,16 +1,15 @@
 -- The calls that take a list with k = n and a lent output slice: each way out of their checks, and what an accepted call is given. Assumes nothing.
 use Prim.Native.Nat.{ℕ, _≤_}
-use native.Mathlib.Omega.{arith}
-use mathlib.Core.Path.{_≡_, refl, ap}
+use mathlib.Core.Path.{_≡_, ap}
 use mathlib.Core.Logic.{_↔_, _≢_, inl, inr, Iff·trans}
-use mathlib.Core.Bool.{Bool, true, false, not, _&&_, _||_}
+use mathlib.Core.Bool.{true, false, not, _&&_, _||_}
 use lib.Dec.{ltb, eqb}
 use borrow.Author.Tests.{ne-eqb}
 use Rattle.statement.specs.declared.Splits.{Splits}
 use Rattle.statement.specs.declared.Outcome.the-variants.{Done, Refused}
 use Rattle.statement.specs.Matrix.{weightLimit}
 use Rattle.statement.specs.Rows.{wellFormed}
-use Rattle.statement.specs.Refusals.{outcomeOf, single, Passed, Fails, AllPassed, wholeListOff, outputOff, outputChecks}
+use Rattle.statement.specs.Refusals.{outcomeOf, Passed, AllPassed, wholeListOff, outputOff, outputChecks}
 use Rattle.statement.proofs.Tests.{same-is, both-is, not-is}
 use Rattle.statement.proofs.Refused.{single-fails, given-refused, accepted-exactly}
 use Rattle.statement.proofs.Accepted.{single-passed, taxa-passed}

@@ -8,7 +8,7 @@ use mathlib.Core.List.{List, [], _∷_, _++_}
 use borrow.Author.Tests.{ltb-true, lt-ltb, le-ltb}
 use Rattle.statement.specs.declared.Outcome.{Outcome}
 use Rattle.statement.specs.declared.Outcome.the-variants.{Done, Short, Refused}
-use Rattle.statement.specs.Lowest.{lowestFrom, lowest, some}
+use Rattle.statement.specs.Lowest.{lowestFrom, lowest, somewhere}
 use Rattle.statement.specs.Refusals.{numberOf, placeOf, Check, single, outcomeOf, Passed, Fails, AllPassed, Given}
 use Rattle.statement.specs.Calls.{unlessRefused}
 use Rattle.statement.proofs.Lowest.{Lowest, lowest-is, lowest-at, lowest-none, none-of, none-at}
@@ -53,7 +53,7 @@ module _ (c : Check) (r : ℕ) (is : r ≡ lowest (c .bad) (c .places)) where
 pub single-fails : (number : ℕ) (b : Bool) → b ≡ true → Fails (single number b) number 0
 single-fails number b e = record { named = refl; within = omega arith; bad = e; lowest = λ i l. absurd (omega arith) }
 
-fails-at : (c : Check) → some (c .bad) (c .places) ≡ true → Fails c (c .number) (lowest (c .bad) (c .places))
+fails-at : (c : Check) → somewhere (c .bad) (c .places) ≡ true → Fails c (c .number) (lowest (c .bad) (c .places))
 fails-at c e = fails c (lowest (c .bad) (c .places)) refl (ltb-true (lowest (c .bad) (c .places)) (c .places) e)
 
 pub given-refused : (checks : List Check) (number place : ℕ) → Given checks number place → outcomeOf checks ≡ Refused number place
@@ -69,9 +69,9 @@ passed-done (c ∷ cs) p = first-passed c cs (p .0) ∙ passed-done cs (p .1)
 -- every order of checks ends one way or the other
 pub either : (checks : List Check) → AllPassed checks ⊎ ((number place : ℕ) × Given checks number place)
 either [] = inl tt
-either (c ∷ cs) = go (some (c .bad) (c .places)) refl (either cs)
+either (c ∷ cs) = go (somewhere (c .bad) (c .places)) refl (either cs)
   where
-    go : (b : Bool) → some (c .bad) (c .places) ≡ b → AllPassed cs ⊎ ((number place : ℕ) × Given cs number place)
+    go : (b : Bool) → somewhere (c .bad) (c .places) ≡ b → AllPassed cs ⊎ ((number place : ℕ) × Given cs number place)
         → AllPassed (c ∷ cs) ⊎ ((number place : ℕ) × Given (c ∷ cs) number place)
     go true e r = inr (c .number, lowest (c .bad) (c .places), inl (fails-at c e))
     go false e (inl p) = inl (none-of (c .bad) (c .places) e, p)
@@ -100,7 +100,7 @@ accepted-exactly checks = ((λ e. there e (either checks)), passed-done checks)
 pub append-checks : (checks more : List Check) → outcomeOf (checks ++ more) ≡ unlessRefused (outcomeOf checks) (outcomeOf checks) (outcomeOf more)
 unfolding outcomeOf
 append-checks [] more = refl
-append-checks (c ∷ cs) more = go (some (c .bad) (c .places)) (append-checks cs more)
+append-checks (c ∷ cs) more = go (somewhere (c .bad) (c .places)) (append-checks cs more)
   where
     bad : Outcome
     bad = Refused (c .number) (lowest (c .bad) (c .places))

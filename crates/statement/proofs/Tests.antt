@@ -5,7 +5,7 @@ use mathlib.Core.Logic.{_↔_}
 use mathlib.Core.Bool.{Bool, true, false, not, _&&_, _||_, and-eq-true-iff, true≢false, false≢true}
 use lib.Dec.{ltb, leb, eqb}
 use borrow.Author.Tests.{ltb-true, ltb-false, lt-ltb, le-ltb, leb-true, le-leb, eqb-true, eq-eqb, not-false}
-use Rattle.statement.specs.Lowest.{some}
+use Rattle.statement.specs.Lowest.{somewhere}
 use Rattle.statement.proofs.Lowest.{none-of, none-at}
 
 pub less-is : (a b : ℕ) → (ltb a b ≡ true) ↔ (a < b)
@@ -31,7 +31,7 @@ pub fails-is : {A : Type 0} {a : Bool} → (a ≡ true) ↔ A → (a ≡ false) 
 fails-is {a = true} f = (λ e. absurd (true≢false e), λ h. absurd (h (f .0 refl)))
 fails-is {a = false} f = (λ e h. false≢true (f .1 h), λ h. refl)
 
-pub none-is : {P : ℕ → Type 0} (p : ℕ → Bool) (m : ℕ) → ((i : ℕ) → (p i ≡ false) ↔ P i) → (some p m ≡ false) ↔ ((i : ℕ) → i < m → P i)
+pub none-is : {P : ℕ → Type 0} (p : ℕ → Bool) (m : ℕ) → ((i : ℕ) → (p i ≡ false) ↔ P i) → (somewhere p m ≡ false) ↔ ((i : ℕ) → i < m → P i)
 none-is p m f = (λ e i l. f i .0 (none-of p m e i l), λ h. none-at p m (λ i l. f i .1 (h i l)))
 
 pub not-less-is : (a b : ℕ) → (ltb a b ≡ false) ↔ (b ≤ a)

@@ -14,8 +14,8 @@ use lib.Pow.{pow-pos}
 use borrow.Author.Tests.{leb-false, lt-leb, not-true}
 use Rattle.statement.specs.declared.Splits.{Splits}
 use Rattle.statement.specs.Cluster.{bit, Split, Conflict}
-use Rattle.statement.specs.Lowest.{some, none}
-use Rattle.statement.specs.Rows.{Listed, clusters, weights, zip, rowsOf, Mem, Ascending, meets, conflicts, fits, clashes, badRow, wellFormed, WellFormed}
+use Rattle.statement.specs.Lowest.{somewhere, nowhere}
+use Rattle.statement.specs.Rows.{Listed, clusters, weights, rowsFrom, rowsOf, Mem, Ascending, meets, conflicts, fits, clashes, badRow, wellFormed, WellFormed}
 use Rattle.statement.proofs.Lowest.{some-at, some-of}
 use Rattle.statement.proofs.Tests.{less-is, most-is, same-is, both-is, neither-is, not-is, fails-is, none-is}
 use Rattle.statement.proofs.Listed.{asc-mem, asc-getD, mem-getD}
@@ -28,7 +28,7 @@ pub record Front (m : ℕ) (xs ys : List ℕ) : Type 0 where
 front-take : (m : ℕ) (xs ys : List ℕ) → m ≤ length ys → xs ≡ take m ys → Front m xs ys
 front-take m xs ys h e = record { long = ap length e ∙ length-take-le m ys h; at = λ i l. ap (λ (zs : List ℕ). getD zs i 0) e ∙ getD-take m ys i 0 l }
 
-zip-columns : (xs ys : List ℕ) → length xs ≡ length ys → (clusters (zip xs ys) ≡ xs) × (weights (zip xs ys) ≡ ys)
+zip-columns : (xs ys : List ℕ) → length xs ≡ length ys → (clusters (rowsFrom xs ys) ≡ xs) × (weights (rowsFrom xs ys) ≡ ys)
 zip-columns [] [] h = (refl, refl)
 zip-columns [] (y ∷ ys) h = absurd (omega arith)
 zip-columns (x ∷ xs) [] h = absurd (omega arith)
@@ -208,8 +208,8 @@ module _ (most n : ℕ) (s : Splits) (room : Roomy s) where
 pub well-formed-is : (most n : ℕ) (s : Splits) → length (s .clusters) ≡ 125 → length (s .weights) ≡ 125 → n ≤ 64 → (wellFormed most n s ≡ true) ↔ WellFormed most n s
 unfolding wellFormed
 well-formed-is most n s hc hw hn =
-    let good : (none (badRow most s) (s .rows) ≡ true) ↔ ((i : ℕ) → i < s .rows → GoodRow most s i) =
-    Iff·trans (not-true (some (badRow most s) (s .rows)), ap not) (none-is (badRow most s) (s .rows) (row-is most s)) in
+    let good : (nowhere (badRow most s) (s .rows) ≡ true) ↔ ((i : ℕ) → i < s .rows → GoodRow most s i) =
+    Iff·trans (not-true (somewhere (badRow most s) (s .rows)), ap not) (none-is (badRow most s) (s .rows) (row-is most s)) in
     let all = both-is (both-is (both-is (most-is 1 (s .taxa)) (most-is (s .taxa) n)) (most-is (s .rows) (2 * s .taxa - 3))) good in
     let room : s .taxa ≤ n → s .rows ≤ 2 * s .taxa - 3 → Roomy s = λ t f. record { clusters = hc; weights = hw; rows = omega arith } in (
       λ e. let (((o, t), f), g) = all .0 e in rows-good most n s (room t f) g o t f,

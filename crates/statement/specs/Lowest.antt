@@ -13,9 +13,9 @@ abbrev pub lowest : (ℕ → Bool) → ℕ → ℕ
 lowest p m = lowestFrom p 0 m
 
 -- one of the places 0 to m - 1 passes the test
-abbrev pub some : (ℕ → Bool) → ℕ → Bool
-some p m = ltb (lowest p m) m
+abbrev pub somewhere : (ℕ → Bool) → ℕ → Bool
+somewhere p m = ltb (lowest p m) m
 
 -- none does
-abbrev pub none : (ℕ → Bool) → ℕ → Bool
-none p m = not (some p m)
+abbrev pub nowhere : (ℕ → Bool) → ℕ → Bool
+nowhere p m = not (somewhere p m)

@@ -10,7 +10,7 @@ use lib.ListN.{length, getD}
 use Rattle.statement.specs.declared.Splits.{Splits}
 use Rattle.statement.specs.declared.Outcome.{Outcome}
 use Rattle.statement.specs.declared.Outcome.the-variants.{Done, Short, Refused}
-use Rattle.statement.specs.Lowest.{lowest, some}
+use Rattle.statement.specs.Lowest.{lowest, somewhere}
 use Rattle.statement.specs.Matrix.{distanceLimit, weightLimit}
 use Rattle.statement.specs.Table.{choose}
 use Rattle.statement.specs.Rows.{wellFormed}
@@ -42,7 +42,7 @@ single number bad = record { number = number; places = 1; bad = λ i. bad }
 unfoldable pub outcomeOf : List Check → Outcome
 outcomeOf [] = Done
 outcomeOf (c ∷ cs) =
-    cond (some (c .bad) (c .places)) (Refused (c .number) (lowest (c .bad) (c .places))) (outcomeOf cs)
+    cond (somewhere (c .bad) (c .places)) (Refused (c .number) (lowest (c .bad) (c .places))) (outcomeOf cs)
 
 -- EXACTLY WHEN: a check is passed where it finds no bad place; a number is given at a place where the checks before it are passed, and this
 -- one has its lowest bad place there
@@ -75,7 +75,7 @@ lengthOff fits = single 2 (not fits)
 
 -- a tree of n taxa has m from 0 to 2n-3 edges: a length that fits none of these gets 2 as well
 abbrev pub treeFits : ℕ → ℕ → Bool
-treeFits n len = some (λ m. eqb len (treeLength n m)) (2 * n - 2)
+treeFits n len = somewhere (λ m. eqb len (treeLength n m)) (2 * n - 2)
 
 -- 3: diagonal not 0, at the entry
 abbrev pub diagonalOff : ℕ → List ℕ → Check
@@ -109,7 +109,7 @@ wholeListOff n s = single 8 (not (wellFormed weightLimit n s && eqb (s .taxa) n)
 -- 9: m byte disagrees with the length, or a link or home above m
 abbrev pub treeOff : ℕ → List ℕ → Check
 treeOff n body =
-    let m = getD body 0 0 in single 9 (not (eqb (length body) (treeLength n m)) || some (λ i. ltb m (getD body (1 + i) 0)) (m + n))
+    let m = getD body 0 0 in single 9 (not (eqb (length body) (treeLength n m)) || somewhere (λ i. ltb m (getD body (1 + i) 0)) (m + n))
 
 -- 10: some vertex's walk never reaches the root, at the lowest such
 abbrev pub walkOff : Tree → Check
@@ -126,7 +126,7 @@ edgeOff n t = record { number = 12; places = root t; bad = λ v. eqb (clusterOf 
 -- 13: two edges with equal clusters, the lowest of them
 abbrev pub twinOff : ℕ → Tree → Check
 twinOff n t =
-    record { number = 13; places = root t; bad = λ v. some (λ w. not (eqb v w) && eqb (clusterOf t v n) (clusterOf t w n)) (root t) }
+    record { number = 13; places = root t; bad = λ v. somewhere (λ w. not (eqb v w) && eqb (clusterOf t v n) (clusterOf t w n)) (root t) }
 
 -- 14: tree weight 0 or above 2,000,000, at the lowest vertex
 abbrev pub weightOff : Tree → Check

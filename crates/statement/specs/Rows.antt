@@ -8,7 +8,7 @@ use lib.Dec.{ltb, leb, eqb}
 use lib.ListN.{length, take, getD, replicate}
 use Rattle.statement.specs.declared.Splits.{Splits}
 use Rattle.statement.specs.Cluster.{bit, Out, Conflict}
-use Rattle.statement.specs.Lowest.{some, none}
+use Rattle.statement.specs.Lowest.{somewhere, nowhere}
 
 -- Row: a cluster with its weight
 pub record Row : Type 0 where
@@ -52,14 +52,14 @@ pub record FullAnswer (Supported : ℕ → Type 0) (Weighs : ℕ → ℕ → Typ
 -- THE LIST, with its fixed room of 125 rows
 
 -- two lists of numbers as rows
-abbrev pub zip : List ℕ → List ℕ → List Row
-zip [] ws = []
-zip (c ∷ cs) [] = []
-zip (c ∷ cs) (w ∷ ws) = row c w ∷ zip cs ws
+abbrev pub rowsFrom : List ℕ → List ℕ → List Row
+rowsFrom [] ws = []
+rowsFrom (c ∷ cs) [] = []
+rowsFrom (c ∷ cs) (w ∷ ws) = row c w ∷ rowsFrom cs ws
 
 -- the rows of a list; spare rows aren't looked at
 unfoldable pub rowsOf : Splits → List Row
-rowsOf s = zip (take (s .rows) (s .clusters)) (take (s .rows) (s .weights))
+rowsOf s = rowsFrom (take (s .rows) (s .clusters)) (take (s .rows) (s .weights))
 
 -- filled up with zeros to 125 places
 unfoldable pub filled : List ℕ → List ℕ
@@ -88,7 +88,7 @@ pub record WellFormed (most n : ℕ) (s : Splits) : Type 0 where
 
 -- the same as a test. Some taxon below k is in a or out of it as p says, and in b or out of it as q says
 abbrev pub meets : ℕ → ℕ → ℕ → ℕ → ℕ → Bool
-meets k a p b q = some (λ i. eqb (bit a i) p && eqb (bit b i) q) k
+meets k a p b q = somewhere (λ i. eqb (bit a i) p && eqb (bit b i) q) k
 
 unfoldable pub conflicts : ℕ → ℕ → ℕ → Bool
 conflicts k a b = meets k a 1 b 1 && meets k a 1 b 0 && meets k a 0 b 1 && meets k a 0 b 0
@@ -102,7 +102,7 @@ unfoldable pub clashes : ℕ → List ℕ → ℕ → ℕ → Bool
 clashes k cs i j = leb (getD cs i 0) (getD cs j 0) || conflicts k (getD cs j 0) (getD cs i 0)
 
 unfoldable pub badRow : ℕ → Splits → ℕ → Bool
-badRow most s i = not (fits most (s .taxa) (getD (s .clusters) i 0) (getD (s .weights) i 0)) || some (clashes (s .taxa) (s .clusters) i) i
+badRow most s i = not (fits most (s .taxa) (getD (s .clusters) i 0) (getD (s .weights) i 0)) || somewhere (clashes (s .taxa) (s .clusters) i) i
 
 unfoldable pub wellFormed : ℕ → ℕ → Splits → Bool
-wellFormed most n s = leb 1 (s .taxa) && leb (s .taxa) n && leb (s .rows) (2 * s .taxa - 3) && none (badRow most s) (s .rows)
+wellFormed most n s = leb 1 (s .taxa) && leb (s .taxa) n && leb (s .rows) (2 * s .taxa - 3) && nowhere (badRow most s) (s .rows)

@@ -5,7 +5,7 @@ use mathlib.Core.List.{List, [], _∷_, map}
 use lib.Dec.{leb, eqb}
 use lib.ListN.{length, getD}
 use Rattle.statement.specs.Cluster.{bit, groupOf}
-use Rattle.statement.specs.Lowest.{lowest, some, none}
+use Rattle.statement.specs.Lowest.{lowest, somewhere, nowhere}
 use Rattle.statement.specs.Rows.{Row, row, clusters, weights}
 
 -- the numbers from i on, m of them
@@ -28,7 +28,7 @@ clusterAt rows i = getD (clusters rows) i 0
 
 -- every taxon below n of the group a is in the group b, and the two differ
 abbrev pub strictlyIn : ℕ → ℕ → ℕ → Bool
-strictlyIn n a b = none (λ i. eqb (bit a i) 1 && eqb (bit b i) 0) n && not (eqb a b)
+strictlyIn n a b = nowhere (λ i. eqb (bit a i) 1 && eqb (bit b i) 0) n && not (eqb a b)
 
 -- the smallest listed cluster strictly containing that of row i, else m: rows ascend, so the lowest is the smallest
 unfoldable pub linkOf : ℕ → List Row → ℕ → ℕ
@@ -52,7 +52,7 @@ walk t (suc s) v = walk t s (up t v)
 
 -- b is on the walk up from a; as many steps as there are edges are enough
 abbrev pub onWalk : Tree → ℕ → ℕ → Bool
-onWalk t a b = some (λ s. eqb (walk t s a) b) (suc (root t))
+onWalk t a b = somewhere (λ s. eqb (walk t s a) b) (suc (root t))
 
 -- THE CLUSTER OF AN EDGE: the taxa below n homed at or below it
 unfoldable pub clusterOf : Tree → ℕ → ℕ → ℕ

@@ -7,7 +7,7 @@ use mathlib.Core.List.{List, []}
 use lib.Dec.{eqb}
 use lib.ListN.{getD}
 use Rattle.statement.specs.Cluster.{groupOf}
-use Rattle.statement.specs.Lowest.{some}
+use Rattle.statement.specs.Lowest.{somewhere}
 use Rattle.statement.specs.Tree.{Tree, root, up, walk, onWalk, clusterOf}
 use Rattle.statement.specs.Refusals.{walkOff}
 use Rattle.tree_check.specs.Parts.{placed, linked}
@@ -28,7 +28,7 @@ module _ (t : Tree) (homes : List ℕ) where
   same-walk (suc s) v = same-walk s (up t v)
 
   pub same-on-walk : (a b : ℕ) → onWalk t a b ≡ onWalk (placed (t .links) homes) a b
-  same-on-walk a b = λ i. some (λ s. eqb (same-walk s a i) b) (suc (root t))
+  same-on-walk a b = λ i. somewhere (λ s. eqb (same-walk s a i) b) (suc (root t))
 
 -- so the check of the walks is one of the links, and a cluster is one of links and homes
 pub walks-of-links : (t : Tree) → walkOff t ≡ walkOff (linked (t .links))

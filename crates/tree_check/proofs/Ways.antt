@@ -9,7 +9,7 @@ use lib.Dec.{ltb, eqb}
 use lib.ListN.{length, getD, take, drop}
 use borrow.Author.Tests.{lt-ltb, le-ltb, eq-eqb, ne-eqb}
 use Rattle.statement.specs.declared.Outcome.the-variants.{Done, Refused}
-use Rattle.statement.specs.Lowest.{lowest, some}
+use Rattle.statement.specs.Lowest.{lowest, somewhere}
 use Rattle.statement.specs.Tree.{root}
 use Rattle.statement.specs.Bytes.{fromBytes, treeIn, treeLength}
 use Rattle.statement.specs.Refusals.{Check, outcomeOf, Passed, Given, taxaOff, lengthOff, treeFits, treeOff, weightOff, walkOff, homeOff}
@@ -21,7 +21,7 @@ use Rattle.tree_check.proofs.Walked.{walks-of-links}
 
 -- a byte behind the first, up to the last home, is above m
 abbrev pub above : ℕ → List ℕ → ℕ → Bool
-above n body m = some (λ i. ltb m (getD body (1 + i) 0)) (m + n)
+above n body m = somewhere (λ i. ltb m (getD body (1 + i) 0)) (m + n)
 
 -- 1 AND 2
 module _ (n : ℕ) (body : List ℕ) where

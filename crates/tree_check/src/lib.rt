@@ -11,14 +11,14 @@ ghost use mathlib.Core.Bool.{not};
 ghost use Prim.Native.Nat.{_+_, _*_, _≤_, _<_};
 ghost use lib.Dec.{ltb};
 ghost use lib.ListN.{length, getD};
-ghost use Rattle.statement.specs.Lowest.{lowest, some};
+ghost use Rattle.statement.specs.Lowest.{lowest, somewhere};
 ghost use Rattle.statement.specs.Tree.{up, onWalk};
 ghost use Rattle.statement.specs.Bytes.{fromBytes};
 ghost use Rattle.statement.specs.Refusals.{outcomeOf, treeFits};
 ghost use Rattle.tree_check.specs.Parts.{linked, badWeight, firstChecks};
 
 // The length is that of a tree of n taxa with 0 to 2n-3 edges.
-fn tree_fits(n: usize, len: usize) -> bool
+pub fn tree_fits(n: usize, len: usize) -> bool
     requires { ⌜ (2 ≤ n) × (n ≤ 64) ⌝ }
     ensures { λ r. ⌜ r ≡ treeFits n len ⌝ }
 {
@@ -35,7 +35,7 @@ fn tree_fits(n: usize, len: usize) -> bool
 // One of the bytes behind the first, `count` of them, is above m.
 fn some_above(m: usize, body: &[u8], count: usize) -> bool
     requires { ⌜ count < length (now body) ⌝ }
-    ensures { λ r. ⌜ r ≡ some (λ i. ltb m (getD (now (body .entry)) (1 + i) 0)) count ⌝ }
+    ensures { λ r. ⌜ r ≡ somewhere (λ i. ltb m (getD (now (body .entry)) (1 + i) 0)) count ⌝ }
 {
     let mut i: usize = 0;
     while i < count {

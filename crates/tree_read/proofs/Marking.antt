@@ -13,7 +13,7 @@ use lib.Seq.{getD-set-same, getD-set-other}
 use borrow.Author.Count.{below-more}
 use borrow.Author.Tests.{eq-eqb, ne-eqb}
 use Rattle.statement.specs.Cluster.{groupOf}
-use Rattle.statement.specs.Lowest.{some}
+use Rattle.statement.specs.Lowest.{somewhere}
 use Rattle.statement.specs.Tree.{Tree, walk, onWalk, clusterOf}
 use Rattle.statement.proofs.Groups.{group-below}
 use Rattle.statement.proofs.Lowest.{some-at, some-of, none-of, none-at}
@@ -22,16 +22,16 @@ use Rattle.tree_check.proofs.Walked.{same-on-walk}
 use Rattle.tree_read.specs.Columns.{Marked}
 
 -- one place more, where the test fails
-some-miss : (p : ℕ → Bool) (k : ℕ) → p k ≡ false → some p (k + 1) ≡ some p k
-some-miss p k here = go (some p k) refl
+some-miss : (p : ℕ → Bool) (k : ℕ) → p k ≡ false → somewhere p (k + 1) ≡ somewhere p k
+some-miss p k here = go (somewhere p k) refl
   where
-    go : (b : Bool) → some p k ≡ b → some p (k + 1) ≡ b
+    go : (b : Bool) → somewhere p k ≡ b → somewhere p (k + 1) ≡ b
     go true e = let (i, l, q) = some-of p k e in some-at p (k + 1) i (omega arith) q
     go false e = none-at p (k + 1) (below-more (λ i. p i ≡ false) k (none-of p k e) here)
 
 -- the walk from home passes v within its first s places
 abbrev passes : List ℕ → ℕ → ℕ → ℕ → Bool
-passes links home v s = some (λ j. eqb (walk (linked links) j home) v) s
+passes links home v s = somewhere (λ j. eqb (walk (linked links) j home) v) s
 
 pub mark-none : (links : List ℕ) (home group : ℕ) (before : List ℕ) → length before ≡ 125 → Marked links home group 0 before before
 mark-none links home group before l =

@@ -9,7 +9,6 @@ use mathlib.Core.List.{List}
 use lib.Dec.{ltb, eqb}
 use lib.ListN.{length, getD}
 use borrow.Author.Tests.{ne-eqb, eqb-false}
-use Rattle.statement.specs.Lowest.{some}
 use Rattle.statement.specs.Matrix.{weightLimit}
 use Rattle.statement.specs.Tree.{Tree, root, up, clusterOf}
 use Rattle.statement.specs.Bytes.{treeIn, treeLength}
@@ -33,8 +32,8 @@ shape-passed n body p =
 weight-passed : (t : Tree) → Passed (weightOff t) → (v : ℕ) → v < root t → (1 ≤ weightAt t v) × (weightAt t v ≤ weightLimit)
 weight-passed t p v l =
     let w = weightAt t v in
-    let (some, most) = neither-is (eqb-false w 0, ne-eqb w 0) (not-less-is weightLimit w) .0 (p v l) in
-    (pos-of-ne-zero some, most)
+    let (positive, most) = neither-is (eqb-false w 0, ne-eqb w 0) (not-less-is weightLimit w) .0 (p v l) in
+    (pos-of-ne-zero positive, most)
 
 twin-passed : (n : ℕ) (t : Tree) → Passed (twinOff n t) → (u v : ℕ) → u < root t → v < root t → clusterOf t u n ≡ clusterOf t v n → u ≡ v
 twin-passed n t p u v lu lv e = go (ℕ-discrete u v)

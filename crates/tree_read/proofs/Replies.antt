@@ -12,7 +12,7 @@ use Rattle.statement.specs.declared.Splits.{Splits}
 use Rattle.statement.specs.declared.Reading.{Reading}
 use Rattle.statement.specs.declared.Outcome.the-variants.{Done, Refused}
 use Rattle.statement.specs.Cluster.{Split}
-use Rattle.statement.specs.Lowest.{lowest, some}
+use Rattle.statement.specs.Lowest.{lowest, somewhere}
 use Rattle.statement.specs.Rows.{row, listOf}
 use Rattle.statement.specs.Tree.{Tree, root, clusterOf, rowsOfTree}
 use Rattle.statement.specs.Bytes.{treeIn, treeLength, fromBytes}
@@ -43,7 +43,7 @@ all-after : (cs ds : List Check) → AllPassed cs → AllPassed ds → AllPassed
 all-after [] ds p q = q
 all-after (c ∷ cs) ds p q = (p .0, all-after cs ds (p .1) q)
 
-some-same : (p q : ℕ → Bool) (m : ℕ) → ((i : ℕ) → i < m → p i ≡ q i) → some p m ≡ some q m
+some-same : (p q : ℕ → Bool) (m : ℕ) → ((i : ℕ) → i < m → p i ≡ q i) → somewhere p m ≡ somewhere q m
 some-same p q m e = ap (λ (k : ℕ). ltb k m) (lowest-same p q 0 m (λ j a l. e j (omega arith)))
 
 -- what is not refused passed
@@ -147,7 +147,7 @@ module _ (n : ℕ) (body : List ℕ) (m : ℕ) (cs : List ℕ) (k : Read n body 
       some-same (λ w. not (eqb v w) && eqb (getD cs v 0) (getD cs w 0))
       (λ w. not (eqb v w) && eqb (clusterOf (treeIn n body) v n) (clusterOf (treeIn n body) w n)) m
       (λ w h. ap₂ (λ (x y : ℕ). not (eqb v w) && eqb x y) (clusters-are v l) (clusters-are w h))
-      ∙ ap (some (λ w. not (eqb v w) && eqb (clusterOf (treeIn n body) v n) (clusterOf (treeIn n body) w n))) (sym edges)
+      ∙ ap (somewhere (λ w. not (eqb v w) && eqb (clusterOf (treeIn n body) v n) (clusterOf (treeIn n body) w n))) (sym edges)
 
   module _ (r : ℕ) (at : r ≡ lowest (twinned cs m) m) where
     twin-at : r ≡ lowest (twinOff n (treeIn n body) .bad) (root (treeIn n body))

@@ -6,12 +6,12 @@ use mathlib.Core.Bool.{Bool, true, false, not, _&&_}
 use mathlib.Core.List.{List}
 use lib.Dec.{eqb}
 use lib.ListN.{getD}
-use Rattle.statement.specs.Lowest.{some}
+use Rattle.statement.specs.Lowest.{somewhere}
 use borrow.Author.Tests.{eq-eqb, ne-eqb}
 
 -- another one of m edges has the cluster of v
 abbrev pub twinned : List ℕ → ℕ → ℕ → Bool
-twinned cs m v = some (λ w. not (eqb v w) && eqb (getD cs v 0) (getD cs w 0)) m
+twinned cs m v = somewhere (λ w. not (eqb v w) && eqb (getD cs v 0) (getD cs w 0)) m
 
 module _ (cs : List ℕ) (v w : ℕ) where
   pub twin : v ≢ w → getD cs v 0 ≡ getD cs w 0 → (not (eqb v w) && eqb (getD cs v 0) (getD cs w 0)) ≡ true

@@ -5,7 +5,7 @@ use mathlib.Core.Bool.{cond}
 use mathlib.Core.List.{List}
 use lib.Dec.{eqb}
 use lib.ListN.{length, getD}
-use Rattle.statement.specs.Lowest.{some}
+use Rattle.statement.specs.Lowest.{somewhere}
 use Rattle.statement.specs.Tree.{walk, clusterOf}
 use Rattle.tree_check.specs.Parts.{linked, placed}
 
@@ -13,7 +13,7 @@ use Rattle.tree_check.specs.Parts.{linked, placed}
 pub record Marked (links : List ℕ) (home b places : ℕ) (before after : List ℕ) : Type 0 where
   pub long : length after ≡ 125
   pub each : (v : ℕ) → v < length links
-      → getD after v 0 ≡ getD before v 0 + cond (some (λ s. eqb (walk (linked links) s home) v) places) b 0
+      → getD after v 0 ≡ getD before v 0 + cond (somewhere (λ s. eqb (walk (linked links) s home) v) places) b 0
 
 -- the clusters of the edges
 pub record Clusters (links homes clusters : List ℕ) : Type 0 where

@@ -18,7 +18,7 @@ ghost use Prim.Native.Nat.{ℕ, suc, _+_, _*_, _^_, _<_, _≤_};
 ghost use lib.Dec.{eqb};
 ghost use lib.ListN.{length, getD};
 ghost use Rattle.statement.specs.declared.Outcome.the-variants.{Done, Refused};
-ghost use Rattle.statement.specs.Lowest.{lowest, some};
+ghost use Rattle.statement.specs.Lowest.{lowest, somewhere};
 ghost use Rattle.statement.specs.Rows.{listOf};
 ghost use Rattle.statement.specs.Bytes.{fromBytes};
 ghost use Rattle.statement.specs.Refusals.{outcomeOf};
@@ -90,7 +90,7 @@ fn lowest_empty(m: usize, clusters: &[u64; 125]) -> usize
 // Another one of m edges has the cluster of the edge v.
 fn has_twin(m: usize, clusters: &[u64; 125], v: usize) -> bool
     requires { ⌜ (m ≤ 125) × (v < m) ⌝ }
-    ensures { λ r. ⌜ r ≡ some (λ w. not (eqb v w) && eqb (getD (now (clusters .entry)) v 0) (getD (now (clusters .entry)) w 0)) m ⌝ }
+    ensures { λ r. ⌜ r ≡ somewhere (λ w. not (eqb v w) && eqb (getD (now (clusters .entry)) v 0) (getD (now (clusters .entry)) w 0)) m ⌝ }
 {
     let mut w: usize = 0;
     while w < m {
@@ -107,7 +107,7 @@ fn has_twin(m: usize, clusters: &[u64; 125], v: usize) -> bool
 // The lowest of m edges whose cluster another one has; m where there is none.
 fn lowest_twin(m: usize, clusters: &[u64; 125]) -> usize
     requires { ⌜ m ≤ 125 ⌝ }
-    ensures { λ r. ⌜ r ≡ lowest (λ v. some (λ w. not (eqb v w) && eqb (getD (now (clusters .entry)) v 0) (getD (now (clusters .entry)) w 0)) m) m ⌝ }
+    ensures { λ r. ⌜ r ≡ lowest (λ v. somewhere (λ w. not (eqb v w) && eqb (getD (now (clusters .entry)) v 0) (getD (now (clusters .entry)) w 0)) m) m ⌝ }
 {
     let mut v: usize = 0;
     while v < m {

@@ -1,18 +1,17 @@
 -- What a walker's step is, by what stands at its place. Assumes nothing.
 use Prim.Native.Nat.{ℕ, _+_, _-_, _≤_, _<_}
 use native.Mathlib.Omega.{arith}
-use mathlib.Core.Path.{_≡_, refl, sym, _∙_, ap}
+use mathlib.Core.Path.{_≡_, _∙_}
 use mathlib.Core.Logic.{_≢_}
 use mathlib.Core.List.{List}
 use lib.ListN.{length, take, drop, length-drop}
 use lib.Seq.{take-all}
 use borrow.Author.Tests.{lt-ltb, le-ltb}
-use Rattle.statement.specs.declared.Step.{Step}
 use Rattle.statement.specs.declared.Step.the-variants as step
 use Rattle.statement.specs.Refusals.{numberOf}
 use Rattle.statement.specs.Record.{lengthIn, recordLength}
 use Rattle.statement.specs.Calls.{findRecord, stepAt}
-use Rattle.record_find.proofs.Found.{Found, found-exactly, found-by-number, refused-record}
+use Rattle.record_find.proofs.Found.{found-by-number, refused-record}
 
 module _ (file : List ℕ) (place : ℕ) where
   pub step-end : length file ≤ place → step.End ≡ stepAt file place

@@ -1,21 +1,21 @@
 -- `record_find::find_record` meets its contract, one check after the other. Assumes nothing.
-use Prim.Native.Nat.{ℕ, _≤_, _<_}
+use Prim.Native.Nat.{ℕ, _≤_}
 use native.Mathlib.Omega.{arith}
 use mathlib.Core.Path.{_≡_, refl, sym, _∙_, ap}
 use mathlib.Core.Logic.{⊎-elim}
-use mathlib.Core.Bool.{Bool, true, true≢false}
+use mathlib.Core.Bool.{true≢false}
 use mathlib.Core.List.{List}
-use lib.ListN.{length, drop, getD, take}
+use lib.ListN.{drop, take}
 use lib.Seq.{length-take-le}
 use borrow.Author.Needs.{needs}
 use borrow.Author.Tests.{ltb-true, ltb-false, not-true, not-false, eq-eqb, eqb-true, eqb-false}
 use Rattle.statement.specs.Bytes.{wordSum}
 use Rattle.statement.specs.Refusals.{outcomeOf}
-use Rattle.statement.specs.Record.{kinds, isKind, fitsKind, kindIn, taxaIn, lengthIn, recordLength, padIn, recordChecks}
+use Rattle.statement.specs.Record.{kinds, fitsKind, kindIn, taxaIn, lengthIn, recordLength, padIn, recordChecks}
 use Rattle.statement.specs.Calls.{findRecord}
 use Rattle.statement.proofs.Refused.{first-passed, none-left}
 use Rattle.statement.proofs.Accepted.{taxa-passed, too-few, too-many}
-use Rattle.record_find.proofs.Found.{refused-unless, good-passed, cut-passed, mark-passed, sum-passed, Found, found-exactly}
+use Rattle.record_find.proofs.Found.{refused-unless, good-passed, cut-passed, mark-passed, sum-passed}
 use Rattle.record_find.proofs.find_record.Statement.{statement}
 use Rattle.record_find.proofs.find_record.Tie as tie
 
@@ -70,7 +70,8 @@ past-taxa : (c : tie.Else6) → Left (from-taxa c) 4
 past-taxa c = past-kind (c .before .before .before .before) ∙ first-passed _ _ (taxa-passed _ .1 (taxa c))
 
 -- what length_fits said, of the header's own n and length
-said-fits : (c : tie.After-length-fits) → let bytes = from-taxa (c .before .before) in c .length-fits .result ≡ fitsKind kinds (kindIn bytes) (taxaIn bytes) (lengthIn bytes)
+said-fits : (c : tie.After-length-fits) → let bytes = from-taxa (c .before .before) in
+    c .length-fits .result ≡ fitsKind kinds (kindIn bytes) (taxaIn bytes) (lengthIn bytes)
 said-fits c = rw (c .before .before .before .before .wide .ensures .0, c .before .length-in .ensures .0) at (c .length-fits .ensures)
 
 past-length : (c : tie.Else7) → Left (from-length c) 5
@@ -84,7 +85,8 @@ past-whole : (c : tie.Else8) → Left (from-whole c) 6
 past-whole c = past-length (c .before .before) ∙ first-passed _ _ (cut-passed (from-whole c) _ .1 (rw (whole (c .before)) at (c .if8 .left)))
 
 -- what word_sum said, of the whole record
-said-sum : (c : tie.After-word-sum) → let bytes = from-whole (c .before .before .before .before) in c .word-sum .result ≡ wordSum (take (recordLength (lengthIn bytes)) bytes)
+said-sum : (c : tie.After-word-sum) → let bytes = from-whole (c .before .before .before .before) in
+    c .word-sum .result ≡ wordSum (take (recordLength (lengthIn bytes)) bytes)
 said-sum c = rw (whole (c .before .before .before .before .before)) at (c .word-sum .ensures)
 
 returns : tie.Need-returns

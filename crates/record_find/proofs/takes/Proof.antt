@@ -1,6 +1,6 @@
 -- `record_find::takes` meets its contract: a kind's own test decides, and the others do not see it. Assumes nothing.
 use native.Mathlib.Omega.{arith}
-use mathlib.Core.Path.{_≡_, refl, sym, _∙_}
+use mathlib.Core.Path.{refl, sym, _∙_}
 use mathlib.Core.List.{[]}
 use Rattle.statement.specs.Record.{matrixKind, tableKind, treeKind}
 use Rattle.record_find.proofs.TakenKinds.{taken-this, taken-other}

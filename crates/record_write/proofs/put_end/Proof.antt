@@ -1,6 +1,6 @@
 -- `record_write::put_end` meets its contract: the pad, where there is one, then the sum word. Assumes nothing.
 use native.Mathlib.Omega.{arith}
-use mathlib.Core.Path.{_≡_, sym}
+use mathlib.Core.Path.{sym}
 use mathlib.Core.Logic.{⊎-elim}
 use lib.ListN.{length-set}
 use lib.Seq.{length-take-le}

@@ -1,5 +1,4 @@
 -- `walker::place_after` meets its contract, by the step. Assumes nothing.
-use Prim.Native.Nat.{ℕ}
 use mathlib.Core.Path.{_≡_, sym, _∙_, ap}
 use borrow.Author.Needs.{needs}
 use Rattle.statement.specs.declared.Step.{Step}
@@ -9,7 +8,8 @@ use Rattle.walker.proofs.place_after.Statement.{statement}
 use Rattle.walker.proofs.place_after.Tie as tie
 
 -- the place after the step that was said
-by-step : (c : tie.After-step-at) {s : Step} → s ≡ c .step-at .result → let a = c .before .before .args in placeAfter s (a .place) ≡ placeAfter (stepAt (a .file .now) (a .place)) (a .place)
+by-step : (c : tie.After-step-at) {s : Step} → s ≡ c .step-at .result → let a = c .before .before .args in
+    placeAfter s (a .place) ≡ placeAfter (stepAt (a .file .now) (a .place)) (a .place)
 by-step c e = ap (λ (s : Step). placeAfter s (c .before .before .args .place)) (e ∙ c .step-at .ensures)
 
 step-at-requires : tie.Need-step-at-requires

@@ -18,11 +18,14 @@ given c = c .before .before .before .before .before .args .file .now
 abbrev placed : tie.After-number-of → ℕ
 placed c = c .before .before .before .before .before .args .place
 
--- what the finder said of the rest
-said : (c : tie.After-number-of) → c .number-of .result ≡ numberOf (findRecord (take (length (given c) - placed c) (drop (placed c) (given c))))
+-- the rest of the file, and what the finder said of it
+abbrev rest : tie.After-number-of → List ℕ
+rest c = take (length (given c) - placed c) (drop (placed c) (given c))
+
+said : (c : tie.After-number-of) → c .number-of .result ≡ numberOf (findRecord (rest c))
 said c = c .number-of .ensures ∙ ap numberOf (c .before .find-record .ensures)
 
-number : (c : tie.Else2) → numberOf (findRecord (take (length (given (c .before)) - placed (c .before)) (drop (placed (c .before)) (given (c .before))))) ≡ 0
+number : (c : tie.Else2) → numberOf (findRecord (rest (c .before))) ≡ 0
 number c = sym (said (c .before)) ∙ c .if2 .left
 
 returns : tie.Need-returns
