@@ -3,3 +3,4 @@ pub mod Demand3
 pub mod Demand1
 pub mod Growing
 pub mod Trees
+pub mod Records

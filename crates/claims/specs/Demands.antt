@@ -18,7 +18,8 @@ use Rattle.statement.specs.Rows.{Row, clusters, Listed, weightIn, Ascending, ro
 use Rattle.statement.specs.Tree.{root, treeOf, walk}
 use Rattle.statement.specs.Bytes.{treeIn, treeLength}
 use Rattle.statement.specs.Refusals.{Check, Given}
-use Rattle.statement.specs.Calls.{writeTree, treeWritten, readTree, sumPaths, pathsWritten}
+use Rattle.statement.specs.Record.{bodyIn}
+use Rattle.statement.specs.Calls.{writeTree, treeWritten, readTree, sumPaths, pathsWritten, findRecord, writeRecord, recordWritten}
 use Rattle.paths.specs.RowSum.{PathSums}
 use Rattle.tree_read.specs.SameTree.{SameTree, rowPlace}
 
@@ -85,6 +86,11 @@ pub record TreeRead (n : ℕ) (body : List ℕ) (list : Splits) : Type 0 where
 -- the rows that part them, the same both ways, 0 to itself, and never above 250,000,000
 abbrev pub ExactSums : ℕ → Splits → List ℕ → Type 0
 ExactSums n s out = sumPaths n s out ≡ Done → PathSums n (rowsOf s) (pathsWritten n s out)
+
+-- "finding what was written gives that body": after an accepted writing the slice holds a record that is found, with the body that was written
+abbrev pub FoundAgain : ℕ → ℕ → List ℕ → List ℕ → Type 0
+FoundAgain kind n body out =
+    writeRecord kind n body out ≡ Done → (findRecord (recordWritten kind n body out) ≡ Done) × (bodyIn (recordWritten kind n body out) ≡ body)
 
 -- DEMAND 1: a reply is refused with a number at a place exactly when the table of refusals says so
 abbrev pub ExactlyWhen : Outcome → List Check → Type 0
