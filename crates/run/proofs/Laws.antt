@@ -4,9 +4,9 @@ use native.Mathlib.Omega.{arith}
 use native.Mathlib.Decide.{ℕ-discrete}
 use native.Mathlib.Nat.{mul-le-mul, le-refl}
 use mathlib.Core.Path.{_≡_, refl, sym, _∙_, ap, subst}
-use mathlib.Core.Logic.{_≢_, _⊎_, inl, inr}
-use mathlib.Core.Bool.{Bool, true, false, cond, true≢false}
-use mathlib.Core.List.{List, [], _∷_, _++_}
+use mathlib.Core.Logic.{_≢_}
+use mathlib.Core.Bool.{true, false, true≢false}
+use mathlib.Core.List.{List, [], _∷_}
 use Rattle.statement.specs.declared.Splits.{Splits}
 use Rattle.statement.specs.declared.Outcome.{Outcome}
 use Rattle.statement.specs.declared.Outcome.the-variants.{Done, Short, Refused}
@@ -14,10 +14,10 @@ use Rattle.statement.specs.Matrix.{weightLimit}
 use Rattle.statement.specs.Table.{tableWeight}
 use Rattle.statement.specs.Rows.{listOf, wellFormed, WellFormed}
 use Rattle.statement.specs.Growing.{grown, trialsAt}
-use Rattle.statement.specs.Lowest.{lowestFrom, lowest, some}
-use Rattle.statement.specs.Refusals.{Check, outcomeOf, AllPassed, Given, listOff, matrixChecks, tableChecks}
-use Rattle.statement.specs.Calls.{unlessRefused, runMatrix, runTable, growMatrix, growTable}
-use Rattle.statement.proofs.Refused.{either, passed-done, given-refused}
+use Rattle.statement.specs.Lowest.{lowestFrom}
+use Rattle.statement.specs.Refusals.{outcomeOf, listOff, matrixChecks, tableChecks}
+use Rattle.statement.specs.Calls.{runMatrix, runTable, growMatrix, growTable}
+use Rattle.statement.proofs.Refused.{append-checks, never-short}
 use Rattle.statement.proofs.Accepted.{matrix-accepted, table-accepted}
 use Rattle.statement.proofs.Lists.{rows-of-list}
 use Rattle.statement.proofs.Run.{run-bound, grown-whole}
@@ -102,29 +102,7 @@ module _ (kind n : ℕ) (entries bytes : List ℕ) (said : Outcome) (checked : C
         ∙ grown-whole (trialBy kind n entries bytes) (mostBy kind) n 7751 (omega (arith, two)) covered
         ∙ rw done
 
--- EACH CALL is one of these
-append-checks : (checks more : List Check) → outcomeOf (checks ++ more) ≡ unlessRefused (outcomeOf checks) (outcomeOf checks) (outcomeOf more)
-unfolding outcomeOf
-append-checks [] more = refl
-append-checks (c ∷ cs) more = go (some (c .bad) (c .places)) (append-checks cs more)
-  where
-    bad : Outcome
-    bad = Refused (c .number) (lowest (c .bad) (c .places))
-
-    go : (b : Bool) → outcomeOf (cs ++ more) ≡ unlessRefused (outcomeOf cs) (outcomeOf cs) (outcomeOf more)
-        → cond b bad (outcomeOf (cs ++ more)) ≡ unlessRefused (cond b bad (outcomeOf cs)) (cond b bad (outcomeOf cs)) (outcomeOf more)
-    go true e = refl
-    go false e = e
-
--- checks never say short
-never-short : (checks : List Check) → outcomeOf checks ≡ Short → ⊥
-never-short checks e = go (either checks)
-  where
-    go : AllPassed checks ⊎ ((number place : ℕ) × Given checks number place) → ⊥
-    go (inl p) = let q : Done ≡ Short = sym (passed-done checks p) ∙ e in let z : _≡_ {A = ℕ} 0 1 = cc in omega arith
-    go (inr (number, place, g)) = let q : Refused number place ≡ Short = sym (given-refused checks number place g) ∙ e in let z : _≡_ {A = ℕ} 0 1 = cc in omega arith
-
--- what isDone says
+-- EACH CALL is one of these: what isDone says
 pub done-is : (o : Outcome) → isDone o ≡ true → o ≡ Done
 done-is Done e = refl
 done-is Short e = absurd (true≢false (sym e))

@@ -1,15 +1,16 @@
 -- EXACTLY WHEN, for every number of every call at once: an order of checks gives a number at a place exactly when the table says so. Assumes nothing.
 use Prim.Native.Nat.{ℕ, _≤_, _<_}
 use native.Mathlib.Omega.{arith}
-use mathlib.Core.Path.{_≡_, refl, sym, _∙_, ap}
-use mathlib.Core.Logic.{_↔_, _⊎_, inl, inr}
-use mathlib.Core.Bool.{Bool, true, false}
-use mathlib.Core.List.{List, [], _∷_}
+use mathlib.Core.Path.{_≡_, refl, sym, _∙_, ap, ap₂}
+use mathlib.Core.Logic.{_↔_, _≢_, _⊎_, inl, inr}
+use mathlib.Core.Bool.{Bool, true, false, cond}
+use mathlib.Core.List.{List, [], _∷_, _++_}
 use borrow.Author.Tests.{ltb-true, lt-ltb, le-ltb}
 use Rattle.statement.specs.declared.Outcome.{Outcome}
-use Rattle.statement.specs.declared.Outcome.the-variants.{Done, Refused}
+use Rattle.statement.specs.declared.Outcome.the-variants.{Done, Short, Refused}
 use Rattle.statement.specs.Lowest.{lowestFrom, lowest, some}
 use Rattle.statement.specs.Refusals.{numberOf, placeOf, Check, single, outcomeOf, Passed, Fails, AllPassed, Given}
+use Rattle.statement.specs.Calls.{unlessRefused}
 use Rattle.statement.proofs.Lowest.{lowest-is, lowest-at, lowest-none, none-of, none-at}
 
 -- ONE CHECK of an order, where r is its lowest bad place: it refuses there, or the next check has the say
@@ -84,3 +85,63 @@ accepted-exactly checks = ((λ e. there e (either checks)), passed-done checks)
     there : outcomeOf checks ≡ Done → AllPassed checks ⊎ ((m p : ℕ) × Given checks m p) → AllPassed checks
     there e (inl p) = p
     there e (inr (m, p, g)) = let q : Done ≡ Refused m p = sym e ∙ given-refused checks m p g in absurd (let z : _≡_ {A = ℕ} 0 1 = cc in omega arith)
+
+-- one order after another
+pub append-checks : (checks more : List Check) → outcomeOf (checks ++ more) ≡ unlessRefused (outcomeOf checks) (outcomeOf checks) (outcomeOf more)
+unfolding outcomeOf
+append-checks [] more = refl
+append-checks (c ∷ cs) more = go (some (c .bad) (c .places)) (append-checks cs more)
+  where
+    bad : Outcome
+    bad = Refused (c .number) (lowest (c .bad) (c .places))
+
+    go : (b : Bool) → outcomeOf (cs ++ more) ≡ unlessRefused (outcomeOf cs) (outcomeOf cs) (outcomeOf more)
+        → cond b bad (outcomeOf (cs ++ more)) ≡ unlessRefused (cond b bad (outcomeOf cs)) (cond b bad (outcomeOf cs)) (outcomeOf more)
+    go true e = refl
+    go false e = e
+
+-- a refused outcome leaves what it leaves
+pub unless-refused : {A : Type 0} (o : Outcome) (left given : A) → numberOf o ≢ 0 → unlessRefused o left given ≡ left
+unless-refused Done left given h = absurd (h refl)
+unless-refused Short left given h = absurd (h refl)
+unless-refused (Refused number place) left given h = refl
+
+-- checks never say short
+pub never-short : (checks : List Check) → outcomeOf checks ≡ Short → ⊥
+never-short checks e = go (either checks)
+  where
+    go : AllPassed checks ⊎ ((number place : ℕ) × Given checks number place) → ⊥
+    go (inl p) = let q : Done ≡ Short = sym (passed-done checks p) ∙ e in let z : _≡_ {A = ℕ} 0 1 = cc in omega arith
+    go (inr (number, place, g)) = let q : Refused number place ≡ Short = sym (given-refused checks number place g) ∙ e in let z : _≡_ {A = ℕ} 0 1 = cc in omega arith
+
+-- BY ITS NUMBER: what is so of each line is so of the one that fails
+abbrev pub Each : (Check → Type 0) → List Check → Type 0
+Each P [] = Unit {0}
+Each P (c ∷ cs) = P c × Each P cs
+
+given-each : (P : Check → Type 0) (checks : List Check) (number place : ℕ) → Each P checks → Given checks number place → (c : Check) × P c × Fails c number place
+given-each P (c ∷ cs) number place (p, ps) (inl f) = (c, p, f)
+given-each P (c ∷ cs) number place (p, ps) (inr (q, g)) = given-each P cs number place ps g
+
+-- where no line has the number 0, an outcome with the number 0 is Done
+pub done-by-number : (checks : List Check) → Each (λ c. c .number ≢ 0) checks → numberOf (outcomeOf checks) ≡ 0 → outcomeOf checks ≡ Done
+done-by-number checks ps e = go (either checks)
+  where
+    go : AllPassed checks ⊎ ((number place : ℕ) × Given checks number place) → outcomeOf checks ≡ Done
+    go (inl p) = passed-done checks p
+    go (inr (number, place, g)) =
+        let (c, other, f) = given-each (λ c. c .number ≢ 0) checks number place ps g in
+        absurd (other (f .named ∙ sym (ap numberOf (given-refused checks number place g)) ∙ e))
+
+-- where each line has one place, another number stands at the place 0
+pub refused-by-number : (checks : List Check) → Each (λ c. c .places ≡ 1) checks → numberOf (outcomeOf checks) ≢ 0
+    → outcomeOf checks ≡ Refused (numberOf (outcomeOf checks)) 0
+refused-by-number checks ps n = go (either checks)
+  where
+    go : AllPassed checks ⊎ ((number place : ℕ) × Given checks number place) → outcomeOf checks ≡ Refused (numberOf (outcomeOf checks)) 0
+    go (inl p) = absurd (n (ap numberOf (passed-done checks p)))
+    go (inr (number, place, g)) =
+        let (c, one, f) = given-each (λ c. c .places ≡ 1) checks number place ps g in
+        let r = given-refused checks number place g in
+        let start : place ≡ 0 = let l = f .within in omega arith in
+        r ∙ ap₂ (λ (m at : ℕ). Refused m at) (sym (ap numberOf r)) start
