@@ -3,14 +3,15 @@ use Prim.Native.Nat.{ℕ, zero, suc, _+_, _*_, _-_, _≤_, _<_, min}
 use native.Mathlib.Omega.{arith}
 use native.Mathlib.Numerals.{add-one}
 use native.Mathlib.Decide.{decLt}
+use mathlib.Core.Logic.{_⊎_, inl, inr}
 use mathlib.Core.Path.{_≡_, refl, sym, _∙_, ap}
 use mathlib.Core.Bool.{Bool, true, false, cond, not, _&&_, true≢false}
 use mathlib.Core.List.{List, [], _∷_}
 use lib.Dec.{ltb, eqb}
-use borrow.Author.Tests.{ltb-true, lt-ltb, le-ltb, eq-eqb, ne-eqb}
-use lib.ListN.{length, getD, drop}
+use borrow.Author.Tests.{ltb-true, ltb-false, lt-ltb, le-ltb, eq-eqb, ne-eqb}
+use lib.ListN.{length, getD, drop, List·getD-map}
 use lib.Seq.{drop-cons, drop-nil}
-use Rattle.numerals.specs.Numerals.{digit, space, startsAt, onFrom, numberAt, startsFrom, startsIn, numberLimit, wrongAt}
+use Rattle.numerals.specs.Numerals.{digit, space, startsAt, onFrom, numberAt, startsFrom, startsIn, numbersIn, numberLimit, wrongAt}
 use Rattle.numerals.specs.declared.Place.{Place}
 use Rattle.numerals.specs.Place.{behind, placeOf}
 
@@ -144,3 +145,38 @@ wrong-number fault p text s v f x y = rw (ne-eqb fault 1 f, ← x, above (number
         go : Dec (numberLimit < w) → ltb numberLimit w ≡ ltb numberLimit (min w tooLarge)
         go (yes l) = lt-ltb numberLimit w l ∙ sym (lt-ltb numberLimit (min w tooLarge) (omega arith))
         go (no l) = le-ltb numberLimit w (omega arith) ∙ sym (le-ltb numberLimit (min w tooLarge) (omega arith))
+
+-- NUMBER i, by the place where it starts; none is above the limit in a text without that fault
+pub number-is : (text : List ℕ) (i : ℕ) → getD (numbersIn text) i 0 ≡ numberAt text (getD (startsIn text) i (length text))
+number-is text i =
+    ap (getD (numbersIn text) i) (sym (text-ends text (length text) 0 (omega arith))) ∙ List·getD-map (numberAt text) (startsIn text) i (length text)
+
+pub record Start (text : List ℕ) (p m at : ℕ) : Type 0 where
+  pub begins : startsAt text at ≡ true
+  pub within : at < p + m
+
+starts-hold : (text : List ℕ) (p m i d : ℕ) → Start text p m (getD (startsFrom text p m) i d) ⊎ (getD (startsFrom text p m) i d ≡ d)
+unfolding startsFrom
+starts-hold text p zero i d = inr refl
+starts-hold text p (suc m) i d = go (startsAt text p) refl i (λ k. later (starts-hold text (suc p) m k d))
+  where
+    later : {at : ℕ} → Start text (suc p) m at ⊎ (at ≡ d) → Start text p (suc m) at ⊎ (at ≡ d)
+    later (inl s) = inl (record { begins = s .begins; within = omega (arith, s .within) })
+    later (inr e) = inr e
+
+    go : (t : Bool) → startsAt text p ≡ t → (i : ℕ)
+      → ((k : ℕ) → let at = getD (startsFrom text (suc p) m) k d in Start text p (suc m) at ⊎ (at ≡ d))
+      → let at = getD (cond t (p ∷ startsFrom text (suc p) m) (startsFrom text (suc p) m)) i d in Start text p (suc m) at ⊎ (at ≡ d)
+    go true e zero rest = inl (record { begins = e; within = omega arith })
+    go true e (suc i) rest = rest i
+    go false e i rest = rest i
+
+pub numbers-small : (text : List ℕ) → ((p : ℕ) → p < length text → wrongAt 2 text p ≡ false) → (i : ℕ) → getD (numbersIn text) i 0 ≤ numberLimit
+numbers-small text fine i = go (starts-hold text 0 (length text) i (length text))
+  where
+    go : Start text 0 (length text) (getD (startsIn text) i (length text)) ⊎ (getD (startsIn text) i (length text) ≡ length text) → getD (numbersIn text) i 0 ≤ numberLimit
+    go (inl s) =
+        let p = getD (startsIn text) i (length text) in
+        let low : ltb numberLimit (numberAt text p) ≡ false = rw (s .begins) at (fine p (omega (arith, s .within))) in
+        omega (arith, number-is text i, ltb-false numberLimit (numberAt text p) low)
+    go (inr e) = omega (arith, number-is text i, ap (numberAt text) e, text-ends text (length text) 0 (omega arith))

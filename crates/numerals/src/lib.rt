@@ -5,7 +5,7 @@ ghost use mathlib.Core.Path.{_≡_};
 ghost use mathlib.Core.Bool.{true};
 ghost use lib.ListN.{length, getD};
 ghost use Rattle.statement.specs.Lowest.{lowest};
-ghost use Rattle.numerals.specs.Numerals.{digit, space, digitAt, startsAt, numberAt, startsIn, wrongAt};
+ghost use Rattle.numerals.specs.Numerals.{digit, space, digitAt, startsAt, numberAt, startsIn, numbersIn, wrongAt};
 ghost use Rattle.numerals.specs.Place.{behind, placeOf};
 
 // Line and column, both from 1.
@@ -137,6 +137,13 @@ pub fn start_of(text: &[u8], i: usize) -> usize
         p += 1;
     }
     p
+}
+
+// Number i, counted from 0: 0 where there are not so many, 4,294,967,296 where it is above 4,294,967,295.
+pub fn number_of(text: &[u8], i: usize) -> u64
+    ensures { λ r. ⌜ r ≡ min (getD (numbersIn (now (text .entry))) i 0) 4294967296 ⌝ }
+{
+    number_at(text, start_of(text, i))
 }
 
 // The place behind a byte: a line end leads to the next line.
