@@ -165,8 +165,8 @@ starts-hold text p (suc m) i d = go (startsAt text p) refl i (λ k. later (start
     later (inr e) = inr e
 
     go : (t : Bool) → startsAt text p ≡ t → (i : ℕ)
-      → ((k : ℕ) → let at = getD (startsFrom text (suc p) m) k d in Start text p (suc m) at ⊎ (at ≡ d))
-      → let at = getD (cond t (p ∷ startsFrom text (suc p) m) (startsFrom text (suc p) m)) i d in Start text p (suc m) at ⊎ (at ≡ d)
+        → ((k : ℕ) → let at = getD (startsFrom text (suc p) m) k d in Start text p (suc m) at ⊎ (at ≡ d))
+        → let at = getD (cond t (p ∷ startsFrom text (suc p) m) (startsFrom text (suc p) m)) i d in Start text p (suc m) at ⊎ (at ≡ d)
     go true e zero rest = inl (record { begins = e; within = omega arith })
     go true e (suc i) rest = rest i
     go false e i rest = rest i
