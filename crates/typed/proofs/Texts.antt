@@ -18,6 +18,14 @@ use Rattle.typed.specs.Typed.{taxaTyped, valuesIn, half, saidOf, taxaOf,
 pub values-count : (text : List ℕ) → length (valuesIn text) ≡ length (startsIn text) - 1
 values-count text = length-drop 1 (numbersIn text) ∙ ap (λ (k : ℕ). k - 1) (length-map (startsIn text) (numberAt text))
 
+from-taxa : (said : Typed) (n : ℕ) → n ≡ taxaOf said → n ≢ 0 → Matrix n ≡ said
+from-taxa (Matrix m) n e some = ap Matrix e
+from-taxa (Strange p) n e some = absurd (some e)
+from-taxa (TooLarge p) n e some = absurd (some e)
+from-taxa (Taxa p) n e some = absurd (some e)
+from-taxa (Count m v p) n e some = absurd (some e)
+from-taxa Room n e some = absurd (some e)
+
 module _ (text : List ℕ) where
   pub said-strange : (p : ℕ) → p ≡ lowest (wrongAt 1 text) (length text) → p < length text → Strange p ≡ saidOf text
   unfolding saidOf
@@ -64,25 +72,24 @@ module _ (text : List ℕ) where
         said-count k i at j = rw (past, ne-eqb v (n * n) k, ne-eqb v (half n) i, j)
 
   -- an accepted text has passed the tests
-  pub taken : (n : ℕ) → n ≡ accepted text → n ≢ 0 → Taken n text
+  pub matrix-taken : (n : ℕ) → Matrix n ≡ saidOf text → Taken n text
   unfolding saidOf
-  taken n e some = go (ltb (lowest (wrongAt 1 text) (length text)) (length text)) (ltb (lowest (wrongAt 2 text) (length text)) (length text)) refl
-      (ltb (taxaTyped text) 2) refl (ltb 64 (taxaTyped text)) refl (eqb (length (valuesIn text)) (taxaTyped text * taxaTyped text) || eqb (length (valuesIn text)) (half (taxaTyped text))) e
+  matrix-taken n e =
+      go (ltb (lowest (wrongAt 1 text) (length text)) (length text)) (ltb (lowest (wrongAt 2 text) (length text)) (length text)) refl (ltb (taxaTyped text) 2) refl (ltb 64 (taxaTyped text)) refl
+      (eqb (length (valuesIn text)) (taxaTyped text * taxaTyped text) || eqb (length (valuesIn text)) (half (taxaTyped text))) e
     where
-      go : (a b : Bool) → ltb (lowest (wrongAt 2 text) (length text)) (length text) ≡ b → (c : Bool) → ltb (taxaTyped text) 2 ≡ c
-          → (d : Bool) → ltb 64 (taxaTyped text) ≡ d → (f : Bool)
-          → n ≡ taxaOf (cond a (Strange (lowest (wrongAt 1 text) (length text))) (cond b (TooLarge (lowest (wrongAt 2 text) (length text)))
-          (cond (c || d) (Taxa (getD (startsIn text) 0 (length text))) (cond f (Matrix (taxaTyped text))
-          (Count (taxaTyped text) (length (valuesIn text)) (getD (startsIn text) (1 + taxaTyped text * taxaTyped text) (length text)))))))
-          → Taken n text
-      go true b x c y d z f e = absurd (some e)
-      go false true x c y d z f e = absurd (some e)
-      go false false x true y d z f e = absurd (some e)
-      go false false x false y true z f e = absurd (some e)
-      go false false x false y false z false e = absurd (some e)
+      go : (a b : Bool) → ltb (lowest (wrongAt 2 text) (length text)) (length text) ≡ b → (c : Bool) → ltb (taxaTyped text) 2 ≡ c → (d : Bool) → ltb 64 (taxaTyped text) ≡ d → (f : Bool)
+        → Matrix n ≡ cond a (Strange (lowest (wrongAt 1 text) (length text))) (cond b (TooLarge (lowest (wrongAt 2 text) (length text)))
+            (cond (c || d) (Taxa (getD (startsIn text) 0 (length text))) (cond f (Matrix (taxaTyped text)) (Count (taxaTyped text) (length (valuesIn text)) (getD (startsIn text) (1 + taxaTyped text * taxaTyped text) (length text))))))
+        → Taken n text
+      go true b x c y d z f e = absurd (let o : _≡_ {A = ℕ} 0 1 = cc in omega arith)
+      go false true x c y d z f e = absurd (let o : _≡_ {A = ℕ} 0 1 = cc in omega arith)
+      go false false x true y d z f e = absurd (let o : _≡_ {A = ℕ} 0 1 = cc in omega arith)
+      go false false x false y true z f e = absurd (let o : _≡_ {A = ℕ} 0 1 = cc in omega arith)
+      go false false x false y false z false e = absurd (let o : _≡_ {A = ℕ} 0 1 = cc in omega arith)
       go false false x false y false z true e =
-          record {
-            two = omega (arith, ltb-false (taxaTyped text) 2 y);
-            few = omega (arith, ltb-false 64 (taxaTyped text) z);
-            small = none-of (wrongAt 2 text) (length text) x;
-          }
+          let same : n ≡ taxaTyped text = ap taxaOf e in
+          record { two = omega (arith, ltb-false (taxaTyped text) 2 y); few = omega (arith, ltb-false 64 (taxaTyped text) z); small = none-of (wrongAt 2 text) (length text) x }
+
+  pub taken : (n : ℕ) → n ≡ accepted text → n ≢ 0 → Taken n text
+  taken n e some = matrix-taken n (from-taxa (saidOf text) n e some)
