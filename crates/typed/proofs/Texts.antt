@@ -79,9 +79,9 @@ module _ (text : List ℕ) where
       (eqb (length (valuesIn text)) (taxaTyped text * taxaTyped text) || eqb (length (valuesIn text)) (half (taxaTyped text))) e
     where
       go : (a b : Bool) → ltb (lowest (wrongAt 2 text) (length text)) (length text) ≡ b → (c : Bool) → ltb (taxaTyped text) 2 ≡ c → (d : Bool) → ltb 64 (taxaTyped text) ≡ d → (f : Bool)
-        → Matrix n ≡ cond a (Strange (lowest (wrongAt 1 text) (length text))) (cond b (TooLarge (lowest (wrongAt 2 text) (length text)))
-            (cond (c || d) (Taxa (getD (startsIn text) 0 (length text))) (cond f (Matrix (taxaTyped text)) (Count (taxaTyped text) (length (valuesIn text)) (getD (startsIn text) (1 + taxaTyped text * taxaTyped text) (length text))))))
-        → Taken n text
+          → Matrix n ≡ cond a (Strange (lowest (wrongAt 1 text) (length text))) (cond b (TooLarge (lowest (wrongAt 2 text) (length text)))
+          (cond (c || d) (Taxa (getD (startsIn text) 0 (length text))) (cond f (Matrix (taxaTyped text)) (Count (taxaTyped text) (length (valuesIn text)) (getD (startsIn text) (1 + taxaTyped text * taxaTyped text) (length text))))))
+          → Taken n text
       go true b x c y d z f e = absurd (let o : _≡_ {A = ℕ} 0 1 = cc in omega arith)
       go false true x c y d z f e = absurd (let o : _≡_ {A = ℕ} 0 1 = cc in omega arith)
       go false false x true y d z f e = absurd (let o : _≡_ {A = ℕ} 0 1 = cc in omega arith)
