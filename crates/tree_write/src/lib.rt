@@ -84,7 +84,7 @@ fn put_vertices(n: usize, s: Splits, out: &mut [u8])
 }
 
 // A number in four bytes, little-endian, from a place on.
-fn put_four(w: u32, at: usize, out: &mut [u8])
+pub fn put_four(w: u32, at: usize, out: &mut [u8])
     requires { ⌜ at + 4 ≤ length (now out) ⌝ }
     ensures { λ _. ⌜ now (out .exit) ≡ paste (now (out .entry)) at (fourBytes w) 4 ⌝ }
 {
