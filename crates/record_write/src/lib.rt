@@ -69,7 +69,7 @@ pub fn lay_out(kind: u8, n: u8, body: &[u8], out: &mut [u8])
 }
 
 // Refusals 1 to 5 of a matrix whose entries are words of four bytes.
-fn check_matrix(n: usize, body: &[u8]) -> Outcome
+pub fn check_matrix(n: usize, body: &[u8]) -> Outcome
     ensures { λ r. ⌜ r ≡ outcomeOf (inputChecks 1 n (now (body .entry))) ⌝ }
 {
     if n < 2 || n > 64 {
