@@ -1,7 +1,7 @@
 -- What is said of a text, one law for each way out. Assumes nothing.
-use Prim.Native.Nat.{ℕ, suc, _+_, _*_, _-_, _≤_, _<_, min}
+use Prim.Native.Nat.{ℕ, _+_, _*_, _-_, _≤_, _<_, min}
 use native.Mathlib.Omega.{arith}
-use mathlib.Core.Path.{_≡_, refl, sym, _∙_, ap}
+use mathlib.Core.Path.{_≡_, refl, _∙_, ap}
 use mathlib.Core.Logic.{_≢_}
 use mathlib.Core.Bool.{Bool, true, false, cond, _||_}
 use mathlib.Core.List.{List}
@@ -13,7 +13,7 @@ use Rattle.statement.proofs.Lowest.{none-of}
 use Rattle.numerals.specs.Numerals.{startsIn, numberAt, numbersIn, wrongAt}
 use Rattle.typed.specs.declared.Typed.{Typed}
 use Rattle.typed.specs.declared.Typed.the-variants.{Matrix, Strange, TooLarge, Taxa, Count, Room}
-use Rattle.typed.specs.Typed.{taxaTyped, valuesIn, half, saidOf, taxaOf, accepted, Small, Taken}
+use Rattle.typed.specs.Typed.{taxaTyped, valuesIn, half, saidOf, taxaOf, accepted, Taken}
 
 pub values-count : (text : List ℕ) → length (valuesIn text) ≡ length (startsIn text) - 1
 values-count text = length-drop 1 (numbersIn text) ∙ ap (λ (k : ℕ). k - 1) (length-map (startsIn text) (numberAt text))

@@ -1,11 +1,10 @@
 -- `numerals::place_of` meets its contract. The loop has the place of byte i. Assumes nothing.
-use Prim.Native.Nat.{ℕ, _+_, _-_, _≤_, min}
+use Prim.Native.Nat.{_-_, min}
 use native.Mathlib.Omega.{arith}
-use native.Mathlib.Numerals.{add-one}
-use mathlib.Core.Path.{_≡_, refl, sym, _∙_, ap}
+use mathlib.Core.Path.{_≡_, _∙_, ap}
 use borrow.Author.Needs.{needs}
-use lib.ListN.{length, getD}
-use Rattle.numerals.specs.Place.{behind, placeOf}
+use lib.ListN.{length}
+use Rattle.numerals.specs.Place.{placeOf}
 use Rattle.numerals.proofs.Laws.{Passed, passed-none, passed-on}
 use Rattle.numerals.proofs.place_of.Statement.{statement}
 use Rattle.numerals.proofs.place_of.Tie as tie

@@ -1,6 +1,5 @@
 -- `numerals::starts` meets its contract, by its tests. Assumes nothing.
 use mathlib.Core.Path.{_≡_, sym, _∙_, ap}
-use mathlib.Core.Bool.{Bool, not}
 use borrow.Author.Needs.{needs}
 use borrow.Author.Tests.{eq-eqb, ne-eqb, not-true, not-false}
 use Rattle.numerals.specs.Numerals.{digit, digitAt}

@@ -1,6 +1,6 @@
 -- `pack::write_typed` meets its contract: the body is that of the typed matrix. Assumes nothing.
 use native.Mathlib.Omega.{arith}
-use mathlib.Core.Path.{_≡_, refl, sym, _∙_, ap}
+use mathlib.Core.Path.{refl, sym, _∙_, ap}
 use mathlib.Core.List.{List}
 use Prim.Native.Nat.{ℕ}
 use Rattle.statement.specs.Calls.{writeRecord, recordWritten}

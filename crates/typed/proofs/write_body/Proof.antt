@@ -1,7 +1,7 @@
 -- `typed::write_body` meets its contract, by the n of the text and the room. Assumes nothing.
 use Prim.Native.Nat.{_≤_}
 use native.Mathlib.Omega.{arith}
-use mathlib.Core.Path.{sym, _∙_}
+use mathlib.Core.Path.{_∙_}
 use borrow.Author.Needs.{needs}
 use Rattle.typed.proofs.Body.{some-taken, few-taken, refused, no-room, written}
 use Rattle.typed.proofs.Entries.{square-small}
