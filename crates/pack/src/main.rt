@@ -4,7 +4,7 @@ use print::number;
 use print::say;
 use statement::Outcome;
 use typed::Typed;
-ghost use Prim.Native.Nat.{_+_, _*_};
+ghost use Prim.Native.Nat.{_*_};
 ghost use mathlib.Core.Path.{_≡_};
 ghost use lib.ListN.{length};
 ghost use Rattle.statement.specs.Bytes.{toBytes};
