@@ -5,7 +5,7 @@ ghost use mathlib.Core.Path.{_≡_};
 ghost use mathlib.Core.Bool.{true};
 ghost use lib.ListN.{length, getD};
 ghost use Rattle.statement.specs.Lowest.{lowest};
-ghost use Rattle.numerals.specs.Numerals.{digit, space, digitAt, startsAt, numberAt, startsIn, numbersIn, wrongAt};
+ghost use Rattle.numerals.specs.Numerals.{digit, space, startsAt, numberAt, startsIn, numbersIn, wrongAt};
 ghost use Rattle.numerals.specs.Place.{behind, placeOf};
 
 // Line and column, both from 1.

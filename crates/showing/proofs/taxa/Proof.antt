@@ -1,8 +1,8 @@
--- `show::taxa` is safe and ends. Assumes nothing.
+-- `showing::taxa` is safe and ends. Assumes nothing.
 use Prim.Native.Nat.{_-_}
 use borrow.Author.Needs.{needs}
-use Rattle.show.proofs.taxa.Statement.{statement}
-use Rattle.show.proofs.taxa.Tie as tie
+use Rattle.showing.proofs.taxa.Statement.{statement}
+use Rattle.showing.proofs.taxa.Tie as tie
 
 abbrev Inv-loop : tie.InvT-loop
 Inv-loop cluster i₀ t3 i = Unit {0}

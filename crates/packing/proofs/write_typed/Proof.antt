@@ -1,4 +1,4 @@
--- `pack::write_typed` meets its contract: the body is that of the typed matrix. Assumes nothing.
+-- `packing::write_typed` meets its contract: the body is that of the typed matrix. Assumes nothing.
 use native.Mathlib.Omega.{arith}
 use mathlib.Core.Path.{refl, sym, _∙_, ap}
 use mathlib.Core.List.{List}
@@ -8,8 +8,8 @@ use Rattle.typed.specs.declared.Typed.the-variants.{Matrix}
 use Rattle.typed.proofs.Texts.{matrix-taken}
 use Rattle.typed.proofs.Body.{written}
 use borrow.Author.Needs.{needs}
-use Rattle.pack.proofs.write_typed.Statement.{statement}
-use Rattle.pack.proofs.write_typed.Tie as tie
+use Rattle.packing.proofs.write_typed.Statement.{statement}
+use Rattle.packing.proofs.write_typed.Tie as tie
 
 write-body-requires : tie.Need-write-body-requires
 write-body-requires c κs = search needs

@@ -1,8 +1,8 @@
--- `show::groups` is safe and ends. Assumes nothing.
+-- `showing::groups` is safe and ends. Assumes nothing.
 use Prim.Native.Nat.{_-_}
 use borrow.Author.Needs.{needs}
-use Rattle.show.proofs.groups.Statement.{statement}
-use Rattle.show.proofs.groups.Tie as tie
+use Rattle.showing.proofs.groups.Statement.{statement}
+use Rattle.showing.proofs.groups.Tie as tie
 
 abbrev Inv-loop : tie.InvT-loop
 Inv-loop list i₀ i = Unit {0}

@@ -1,9 +1,9 @@
--- `pack::full_size` is safe. Assumes nothing.
+-- `packing::full_size` is safe. Assumes nothing.
 use native.Mathlib.Omega.{arith}
 use borrow.Author.Needs.{needs}
 use Rattle.typed.proofs.Entries.{square-small}
-use Rattle.pack.proofs.full_size.Statement.{statement}
-use Rattle.pack.proofs.full_size.Tie as tie
+use Rattle.packing.proofs.full_size.Statement.{statement}
+use Rattle.packing.proofs.full_size.Tie as tie
 
 returns : tie.Need-returns
 returns c = search needs

@@ -1,10 +1,10 @@
--- `show::describe` is safe: a record that is found has its header. Assumes nothing.
+-- `showing::describe` is safe: a record that is found has its header. Assumes nothing.
 use mathlib.Core.Path.{sym, _∙_, ap}
 use borrow.Author.Needs.{needs}
 use Rattle.statement.specs.Refusals.{numberOf}
 use Rattle.record_find.proofs.Found.{found-exactly, found-by-number}
-use Rattle.show.proofs.describe.Statement.{statement}
-use Rattle.show.proofs.describe.Tie as tie
+use Rattle.showing.proofs.describe.Statement.{statement}
+use Rattle.showing.proofs.describe.Tie as tie
 
 find-record-requires : tie.Need-find-record-requires
 find-record-requires c κs = search needs

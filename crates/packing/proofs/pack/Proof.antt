@@ -1,4 +1,4 @@
--- `pack::pack` is safe: the record of at most 64 taxa fits its buffer. Assumes nothing.
+-- `packing::pack` is safe: the record of at most 64 taxa fits its buffer. Assumes nothing.
 use Prim.Native.Nat.{_*_, _≤_}
 use native.Mathlib.Omega.{arith}
 use mathlib.Core.Path.{sym}
@@ -6,8 +6,8 @@ use borrow.Author.Needs.{needs}
 use lib.Seq.{length-take-le}
 use Rattle.typed.proofs.Texts.{matrix-taken}
 use Rattle.typed.proofs.Entries.{square-small}
-use Rattle.pack.proofs.pack.Statement.{statement}
-use Rattle.pack.proofs.pack.Tie as tie
+use Rattle.packing.proofs.pack.Statement.{statement}
+use Rattle.packing.proofs.pack.Tie as tie
 
 few : (c : tie.Start) → c .args .n * c .args .n ≤ 4096
 few c = square-small (c .args .n) (matrix-taken (c .args .text .now) (c .args .n) (c .pre) .few)

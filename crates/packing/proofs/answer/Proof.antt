@@ -1,8 +1,8 @@
--- `pack::answer` is safe: what is packed is the matrix that was said. Assumes nothing.
+-- `packing::answer` is safe: what is packed is the matrix that was said. Assumes nothing.
 use mathlib.Core.Path.{sym, _∙_}
 use borrow.Author.Needs.{needs}
-use Rattle.pack.proofs.answer.Statement.{statement}
-use Rattle.pack.proofs.answer.Tie as tie
+use Rattle.packing.proofs.answer.Statement.{statement}
+use Rattle.packing.proofs.answer.Tie as tie
 
 check-requires : tie.Need-check-requires
 check-requires c κs = search needs

@@ -1,9 +1,9 @@
--- `pack::half_size` is safe. Assumes nothing.
+-- `packing::half_size` is safe. Assumes nothing.
 use native.Mathlib.Omega.{arith}
 use borrow.Author.Needs.{needs}
 use Rattle.typed.proofs.Entries.{rows-small}
-use Rattle.pack.proofs.half_size.Statement.{statement}
-use Rattle.pack.proofs.half_size.Tie as tie
+use Rattle.packing.proofs.half_size.Statement.{statement}
+use Rattle.packing.proofs.half_size.Tie as tie
 
 returns : tie.Need-returns
 returns c = search needs
