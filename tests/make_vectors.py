@@ -1,5 +1,6 @@
 #!/usr/bin/env python3
-"""Writes crates/vectors/data and crates/vectors/stdout: records, sound and damaged, and what document 01 says of each.
+"""Writes crates/vectors/data and crates/vectors/stdout: records, sound and damaged, and what document 01 says of each; files of records, walked (w);
+typed numbers (t); and records in plain words (s).
 
 Everything here is worked out from document 01 and shares nothing with the crates: lists of up to 7 taxa by brute force over every split and every four,
 the two large ones in closed form (taxa that hang one after the other on a line have all 2n-3 splits)."""
@@ -102,25 +103,75 @@ add('18 before 17: a tree record with a wrong sum', record(3, 2, tree, off=1), '
 add('18: wrong sum', record(1, 4, matrix(A), off=1), 'refused 18 at 0\n')
 add('18: pad not zero', record(2, 4, b'\2', pad=b'\1'), 'refused 18 at 0\n')
 
-# a file of records, walked: sound, odd body, damaged, and one behind the damaged one, which is not reached
+# files of records, walked: sound, odd body, damaged, and one behind the damaged one, which is not reached; one record; no byte
 parts = [a, record(2, 4, b'\2'), record(1, 4, matrix(A), off=7), a]
 walked, at = '', 0
 for p in parts[:2]:
     length = struct.unpack('<I', p[4:8])[0]
     walked += 'body at %d, %d bytes\n' % (at + 8, length)
     at += len(p)
-walked += 'refused 18 at 0\n'
+walks = [(b''.join(parts), walked + 'refused 18 at 0\n'), (a, 'body at 8, 64 bytes\nend\n'), (b'', 'end\n')]
+
+# typed numbers: the record of the matrix, or what is wrong with its line and column
+texts = [
+    (b'4\n5\n9 10\n10 11 9\n', a),
+    (b'4\r\n0\t5 9 10\r\n5 0 10 11\r\n9 10 0 9\r\n 10 11 9 0', a),
+    (b'2 1000000', record(1, 2, matrix([[0, 1000000], [1000000, 0]]))),
+    (b'4\n0 5 9 10\n5 x 10 11\n', "line 3, column 3: 'x' is no digit\n"),
+    (b'2\n-1\n', "line 2, column 1: '-' is no digit\n"),
+    (b'3\n1 2\n3 \xc3\xa9\n', 'line 3, column 3: byte 195 is no digit\n'),
+    (b'2 4294967296', 'line 1, column 3: number above 4,294,967,295\n'),
+    (b'2 99999999999999999999999999', 'line 1, column 3: number above 4,294,967,295\n'),
+    (b'2 4294967295', 'line 1, column 3: distance above 1,000,000\n'),
+    (b'', 'line 1, column 1: no number of taxa\n'),
+    (b'\n \n', 'line 3, column 1: no number of taxa\n'),
+    (b'1\n0\n', 'line 1, column 1: number of taxa not from 2 to 64\n'),
+    (b' 65', 'line 1, column 2: number of taxa not from 2 to 64\n'),
+    (b'4\n5\n9 10\n10 11\n', 'line 5, column 1: 5 distances for 4 taxa: a full matrix has 16, a lower half 6\n'),
+    (b'2\n0 1\n1 0 7\n', 'line 3, column 5: 5 distances for 2 taxa: a full matrix has 4, a lower half 1\n'),
+    (b'2\n0 1\n1 3\n', 'line 3, column 3: diagonal not 0\n'),
+    (b'3\n5\n9 1000001\n', 'line 3, column 3: distance above 1,000,000\n'),
+    (b'2\n0 1\n2 0\n', 'line 2, column 3: the two entries of a pair differ\n'),
+    (b'2\n0 1000001\n1 0\n', 'line 2, column 3: distance above 1,000,000\n'),
+]
+
+# records in plain words; a tree body is m, links, homes, weights
+def tree_record(n, m, links, homes, weights):
+    return record(3, n, bytes([m] + links + homes) + b''.join(struct.pack('<I', w) for w in weights))
+
+shown = [
+    (a, 'matrix of 4 taxa: accepted\n'),
+    (record(1, 4, matrix(with_entry(2, 2, 1))), 'matrix of 4 taxa: refused 3 at 10: a diagonal entry is not 0\n'),
+    (record(1, 4, matrix(with_entry(0, 3, 1000001))), 'matrix of 4 taxa: refused 4 at 3: a distance is above 1,000,000\n'),
+    (record(1, 4, matrix(with_entry(3, 1, 12))), 'matrix of 4 taxa: refused 5 at 7: the two entries of a pair differ\n'),
+    (record(2, 4, b'\2'), 'table of fours of 4 taxa: accepted\n'),
+    (record(2, 5, b'\1\1\1\4\1'), 'table of fours of 5 taxa: refused 6 at 3: a table byte is above 3\n'),
+    (tree_record(4, 3, [2, 2, 3], [3, 2, 0, 1], [8, 10, 4]),
+     'tree of 4 taxa: accepted\ngroup 2, weight 8\ngroup 3, weight 10\ngroup 1 2 3, weight 4\n'),
+    (tree_record(2, 0, [], [0, 0], []), 'tree of 2 taxa: accepted\n'),
+    (tree_record(2, 1, [2], [1, 0], [2]), 'tree of 2 taxa: refused 9 at 0: a link or home is above m, or m disagrees with the length\n'),
+    (tree_record(3, 2, [1, 0], [2, 0, 1], [1, 1]), 'tree of 3 taxa: refused 10 at 0: the walk up from this vertex never reaches the root\n'),
+    (tree_record(2, 1, [1], [0, 1], [2]), 'tree of 2 taxa: refused 11 at 0: taxon 0 is not at home at the root\n'),
+    (tree_record(2, 1, [1], [1, 1], [2]), 'tree of 2 taxa: refused 12 at 0: an edge has no taxon beyond it\n'),
+    (tree_record(3, 2, [1, 2], [2, 0, 0], [2, 2]), 'tree of 3 taxa: refused 13 at 0: two edges have the same taxa beyond them\n'),
+    (tree_record(2, 1, [1], [1, 0], [0]), 'tree of 2 taxa: refused 14 at 0: a weight is 0 or above 2,000,000\n'),
+    (record(1, 1, matrix([[0]])), 'no record: refused 1 at 0: the number of taxa is not from 2 to 64\n'),
+    (record(1, 4, matrix(A)[:-4]), 'no record: refused 2 at 0: the length does not match the number of taxa\n'),
+    (record(1, 4, matrix(A), mark=b'SP'), 'no record: refused 15 at 0: the mark is not that of a record\n'),
+    (a[:-1], 'no record: refused 16 at 0: the record is cut\n'),
+    (record(9, 4, matrix(A)), 'no record: refused 17 at 0: the kind is not known\n'),
+    (record(1, 4, matrix(A), off=1), 'no record: refused 18 at 0: the pad is not zero, or the words do not add to zero\n'),
+]
 
 os.makedirs(os.path.join(OUT, 'data'), exist_ok=True)
 for f in os.listdir(os.path.join(OUT, 'data')):
     os.remove(os.path.join(OUT, 'data', f))
-with open(os.path.join(OUT, 'stdout'), 'w') as out:
-    for i, (what, b, says) in enumerate(cases):
-        with open(os.path.join(OUT, 'data', 'v%02d' % i), 'wb') as f:
-            f.write(b)
-        out.write('v%02d\n' % i + says)
-    for name, b, says in (('walk', b''.join(parts), walked), ('end', parts[0], 'body at 8, 64 bytes\nend\n'), ('none', b'', 'end\n')):
-        with open(os.path.join(OUT, 'data', name), 'wb') as f:
-            f.write(b)
-        out.write(name + '\n' + says)
-print(len(cases), 'records and 3 files')
+files = [('v', [(b, says) for what, b, says in cases]), ('w', walks), ('t', texts), ('s', shown)]
+with open(os.path.join(OUT, 'stdout'), 'wb') as out:
+    for asked, group in files:
+        for i, (b, says) in enumerate(group):
+            name = '%s%02d' % (asked, i)
+            with open(os.path.join(OUT, 'data', name), 'wb') as f:
+                f.write(b)
+            out.write(name.encode() + b'\n' + (says if isinstance(says, bytes) else says.encode()))
+print(', '.join('%d of %s' % (len(group), asked) for asked, group in files))

@@ -1,26 +1,6 @@
-// Records, sound and damaged, through the main job's own path; and files of records, walked. The files in data/ and the expected output are made by
-// tests/make_vectors.py from document 01 alone.
+// Records, sound and damaged, through the main job's own path (v); files of records, walked (w); typed numbers, packed (t); records in plain words (s).
+// The files in data/ and the expected output are made by tests/make_vectors.py from document 01 alone.
 use statement::Step;
-
-// What the main job prints of a file.
-fn run(name: &[u8]) {
-    print::say(name);
-    print::say(b"\n");
-    let mut bytes = io::large_buffer();
-    let fd = os::open_read(name);
-    let got = io::read_full(fd, &mut bytes);
-    libc::close(fd);
-    print::growth(job::run_record(&bytes[..got]));
-}
-
-fn records() {
-    let mut i: u8 = 0;
-    while i < 32 {
-        let name = [b'v', 48 + i / 10, 48 + i % 10];
-        run(&name);
-        i += 1;
-    }
-}
 
 // What a walker says at a place; the place behind it, or 65,536 where it stops.
 fn step(file: &[u8], place: usize) -> usize {
@@ -44,16 +24,6 @@ fn step(file: &[u8], place: usize) -> usize {
     }
 }
 
-fn walk(name: &[u8]) {
-    print::say(name);
-    print::say(b"\n");
-    let mut bytes = io::large_buffer();
-    let fd = os::open_read(name);
-    let got = io::read_full(fd, &mut bytes);
-    libc::close(fd);
-    steps(&bytes[..got]);
-}
-
 fn steps(file: &[u8]) {
     let mut place: usize = 0;
     let mut i: usize = 0;
@@ -65,9 +35,42 @@ fn steps(file: &[u8]) {
     }
 }
 
+// What is asked of a file's bytes.
+fn answer(asked: u8, bytes: &[u8]) {
+    if asked == b'v' {
+        print::growth(job::run_record(bytes));
+    } else if asked == b't' {
+        packing::answer(bytes);
+    } else if asked == b's' {
+        showing::describe(bytes);
+    } else {
+        steps(bytes);
+    }
+}
+
+// File i of those that are asked the same: its name, and the answer.
+fn file(asked: u8, i: u8) {
+    let name = [asked, 48 + i / 10, 48 + i % 10];
+    print::say(&name);
+    print::say(b"\n");
+    let mut bytes = io::large_buffer();
+    let fd = os::open_read(&name);
+    let got = io::read_full(fd, &mut bytes);
+    libc::close(fd);
+    answer(asked, &bytes[..got]);
+}
+
+fn files(asked: u8, count: u8) {
+    let mut i: u8 = 0;
+    while i < count {
+        file(asked, i);
+        i += 1;
+    }
+}
+
 fn main() {
-    records();
-    walk(b"walk");
-    walk(b"end");
-    walk(b"none");
+    files(b'v', 32);
+    files(b'w', 3);
+    files(b't', 19);
+    files(b's', 20);
 }
