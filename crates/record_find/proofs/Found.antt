@@ -6,7 +6,8 @@ use mathlib.Core.Logic.{_↔_, _≢_, Iff·trans}
 use mathlib.Core.Bool.{Bool, true, false, not, _&&_, _||_}
 use mathlib.Core.List.{List, [], _∷_, _++_}
 use lib.Dec.{eqb, ltb}
-use lib.ListN.{length, take, drop, getD}
+use lib.ListN.{length, take, drop, getD, length-drop}
+use lib.Seq.{length-take-le}
 use borrow.Author.Tests.{eq-eqb, ne-eqb}
 use Rattle.statement.specs.declared.Outcome.the-variants.{Done, Refused}
 use Rattle.statement.specs.Bytes.{wordSum}
@@ -16,7 +17,7 @@ use Rattle.statement.specs.Calls.{findRecord}
 use Rattle.statement.proofs.Tests.{same-is, both-is, neither-is, not-is, not-less-is}
 use Rattle.statement.proofs.Refused.{refused-single, accepted-exactly, append-checks, unless-refused, done-by-number, refused-by-number}
 use Rattle.statement.proofs.Accepted.{single-passed, taxa-passed}
-use Rattle.record_find.specs.Stretch.{bodyStart}
+use Rattle.record_find.specs.Stretch.{bodyStart, bodyLength}
 
 -- a line whose place is always 0 refuses where it is not passed
 pub refused-unless : (number : ℕ) (bad : Bool) (cs : List Check) {A : Type 0} → Passed (single number bad) ↔ A → (A → ⊥)
@@ -102,6 +103,12 @@ module _ (bytes : List ℕ) where
     pub start-found : (place : ℕ) → 8 + place ≡ place + bodyStart bytes
     start-found place = rw (eq-eqb _ 0 found) (omega arith)
 
+    pub length-found : (len : ℕ) → len ≡ lengthIn bytes → length (take (8 + len - 8) (drop 8 bytes)) ≡ bodyLength bytes
+    length-found len e =
+        let d : 8 + len - 8 ≡ lengthIn bytes = omega arith in
+        let whole = found-exactly bytes .0 (found-by-number bytes found) .whole in
+        rw (d, eq-eqb _ 0 found) (length-take-le (lengthIn bytes) (drop 8 bytes) (omega (arith, length-drop 8 bytes, whole)))
+
   module _ (refused : numberOf (findRecord bytes) ≢ 0) where
     pub body-refused : [] ≡ bodyIn bytes
     unfolding bodyIn findRecord
@@ -109,6 +116,9 @@ module _ (bytes : List ℕ) where
 
     pub start-refused : (place : ℕ) → 0 + place ≡ place + bodyStart bytes
     start-refused place = rw (ne-eqb _ 0 refused) (omega arith)
+
+    pub length-refused : 0 ≡ bodyLength bytes
+    length-refused = rw (ne-eqb _ 0 refused)
 
 -- MORE CHECKS after those of the finder
 module _ (bytes : List ℕ) (more : List Check) where

@@ -10,7 +10,7 @@ ghost use Rattle.statement.specs.Refusals.{numberOf, outcomeOf};
 ghost use Rattle.statement.specs.Record.{kinds, isKind, fitsKind, lengthIn, recordLength, padIn, takenChecks, bodyIn};
 ghost use Rattle.statement.specs.Calls.{findRecord};
 ghost use Rattle.record_find.specs.Taken.{kindsTaken};
-ghost use Rattle.record_find.specs.Stretch.{bodyStart};
+ghost use Rattle.record_find.specs.Stretch.{bodyStart, bodyLength};
 
 // The 16-bit word of a low and a high byte.
 fn word(low: u8, high: u8) -> u16
@@ -171,7 +171,8 @@ pub fn find_taken(bytes: &[u8], taken: Taken) -> Outcome
 // The body, as that stretch of the caller's own bytes; a refused finding gives an empty stretch.
 pub fn body_of<'a>(bytes: &'a [u8]) -> &'a [u8]
     ensures contents { λ r. ⌜ now r ≡ bodyIn (now (bytes .entry)) ⌝ }
-    ensures stretch { λ r. ⌜ (r .ptr .0 ≡ bytes .entry .ptr .0) × (r .ptr .1 ≡ bytes .entry .ptr .1 + bodyStart (now (bytes .entry))) ⌝ }
+    ensures pointer { λ r. ⌜ (r .ptr .0 ≡ bytes .entry .ptr .0) × (r .ptr .1 ≡ bytes .entry .ptr .1 + bodyStart (now (bytes .entry))) ⌝ }
+    ensures length { λ r. ⌜ length (now r) ≡ bodyLength (now (bytes .entry)) ⌝ }
 {
     if number_of(find_record(bytes)) != 0 {
         return &bytes[0..0];

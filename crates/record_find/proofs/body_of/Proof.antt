@@ -5,7 +5,7 @@ use mathlib.Core.Logic.{_≢_}
 use borrow.Author.Needs.{needs}
 use Rattle.statement.specs.Refusals.{numberOf}
 use Rattle.statement.specs.Calls.{findRecord}
-use Rattle.record_find.proofs.Found.{Found, found-exactly, found-by-number, body-found, start-found, body-refused, start-refused}
+use Rattle.record_find.proofs.Found.{Found, found-exactly, found-by-number, body-found, start-found, length-found, body-refused, start-refused, length-refused}
 use Rattle.record_find.proofs.body_of.Statement.{statement}
 use Rattle.record_find.proofs.body_of.Tie as tie
 
@@ -35,7 +35,7 @@ returns : tie.Need-returns
 returns c =
     let bytes = c .before .before .before .before .before .args .bytes in
     let refused : numberOf (findRecord (bytes .now)) ≢ 0 = λ e. c .before .if1 .taken (said (c .before .before) ∙ e) in
-    (body-refused (bytes .now) refused, (refl, start-refused (bytes .now) refused (bytes .ptr .1)))
+    (body-refused (bytes .now) refused, ((refl, start-refused (bytes .now) refused (bytes .ptr .1)), length-refused (bytes .now) refused))
 
 length-in-requires : tie.Need-length-in-requires
 length-in-requires c κs = found c .header
@@ -56,7 +56,8 @@ returns-2 : tie.Need-returns-2
 returns-2 c =
     let number = sym (said (c .before .before .before)) ∙ c .before .before .if1 .left in
     let bytes = c .before .before .before .before .before .before .args .bytes in
-    (body-found (bytes .now) number _ (c .before .length-in .ensures .0), (refl, start-found (bytes .now) number (bytes .ptr .1)))
+    let len = c .before .length-in .ensures .0 in
+    (body-found (bytes .now) number _ len, ((refl, start-found (bytes .now) number (bytes .ptr .1)), length-found (bytes .now) number _ len))
 
 pub body-of-spec : {M : Type 1} → statement M
 body-of-spec =
