@@ -2,7 +2,7 @@
 // Document 01, "Records in a file" and "Refusal numbers".
 use statement::Outcome;
 ghost use mathlib.Core.Path.{_≡_};
-ghost use Prim.Native.Nat.{_+_, _*_, _^_, _≤_, _<_};
+ghost use Prim.Native.Nat.{_+_, _*_, _^_, _%_, _≤_, _<_};
 ghost use lib.Dec.{eqb};
 ghost use lib.ListN.{length};
 ghost use Rattle.statement.specs.Bytes.{wordSum};
@@ -19,6 +19,13 @@ fn word(low: u8, high: u8) -> u16
     low as u16 + 256 * (high as u16)
 }
 
+// One more word added to a sum, with wrapping.
+fn plus(sum: u16, word: u16) -> u16
+    ensures { λ r. ⌜ r ≡ (sum + word) % 65536 ⌝ }
+{
+    std::num::wrapping_add_u16(sum, word)
+}
+
 // All 16-bit words added with wrapping; a last odd byte is no word.
 pub fn word_sum(bytes: &[u8]) -> u16
     ensures { λ r. ⌜ r ≡ wordSum (now (bytes .entry)) ⌝ }
@@ -26,7 +33,7 @@ pub fn word_sum(bytes: &[u8]) -> u16
     let mut sum: u16 = 0;
     let mut i: usize = 0;
     while i + 1 < bytes.len() {
-        sum = std::num::wrapping_add_u16(sum, word(bytes[i], bytes[i + 1]));
+        sum = plus(sum, word(bytes[i], bytes[i + 1]));
         i += 2;
     }
     sum

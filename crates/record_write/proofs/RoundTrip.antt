@@ -23,14 +23,14 @@ use Rattle.record_find.proofs.Found.{good-passed, Found, found-exactly, body-fo
 use Rattle.record_write.specs.Parts.{header, pad}
 
 -- NO BODY IS LONG: its length stands in four bytes
-tree-short : (n len : ℕ) → n ≤ 64 → treeFits n len ≡ true → len < 2 ^ 32
+pub tree-short : (n len : ℕ) → n ≤ 64 → treeFits n len ≡ true → len < 2 ^ 32
 tree-short n len few e =
     let (m, l, at) = some-of (λ m. eqb len (treeLength n m)) (2 * n - 2) e in omega (arith, eqb-true len (treeLength n m) at)
 
-table-short : (n : ℕ) → n ≤ 64 → choose n 4 < 2 ^ 32
+pub table-short : (n : ℕ) → n ≤ 64 → choose n 4 < 2 ^ 32
 table-short n few = omega (arith, absorb n 3, choose-fits n 3 few (omega arith))
 
-body-short : (kind n len : ℕ) → n ≤ 64 → fitsKind kinds kind n len ≡ true → len < 2 ^ 32
+pub body-short : (kind n len : ℕ) → n ≤ 64 → fitsKind kinds kind n len ≡ true → len < 2 ^ 32
 body-short kind n len few e = go (eqb kind 1) (eqb kind 2) (eqb kind 3) e
   where
     go : (a b c : Bool) → cond a (eqb len (4 * (n * n))) (cond b (eqb len (choose n 4)) (cond c (treeFits n len) false)) ≡ true → len < 2 ^ 32

@@ -33,8 +33,8 @@ shared-slice-read-word-2 c = search needs
 word-requires : tie.Need-word-requires Inv-loop μ-loop
 word-requires c κs = search needs
 
-wrapping-add-u16-requires : tie.Need-wrapping-add-u16-requires Inv-loop μ-loop
-wrapping-add-u16-requires c κs = search needs
+plus-requires : tie.Need-plus-requires Inv-loop μ-loop
+plus-requires c κs = search needs
 
 add-i : tie.Need-add-i Inv-loop μ-loop
 add-i c = search needs
@@ -45,7 +45,7 @@ loop-less c = search needs
 loop-again : tie.Need-loop-again Inv-loop μ-loop
 loop-again c =
     let at = c .before .before .before .before .before in
-    omega (arith, total-step (at .before .before .args .bytes .now) (at .loop .i) (search needs), c .wrapping-add-u16 .ensures, c .before .word .ensures)
+    omega (arith, total-step (at .before .before .args .bytes .now) (at .loop .i) (search needs), c .plus .ensures, c .before .word .ensures)
 
 returns : tie.Need-returns Inv-loop μ-loop
 returns c = omega (arith, total-end (c .before .before .before .args .bytes .now) (c .before .loop .i) (search needs))
@@ -62,7 +62,7 @@ word-sum-spec =
     add-word
     shared-slice-read-word-2
     word-requires
-    wrapping-add-u16-requires
+    plus-requires
     add-i
     loop-less
     loop-again
