@@ -4,10 +4,10 @@ use native.Mathlib.Omega.{arith}
 use native.Mathlib.Numerals.{add-one}
 use mathlib.Core.Path.{_≡_, sym, _∙_, ap, ap₂}
 use mathlib.Core.List.{List, [], _∷_, _++_, append-assoc}
-use lib.ListN.{length, getD, length-append, length-map}
+use lib.ListN.{length, getD, replicate, length-append, length-map}
 use lib.Pow.{pow-mono}
 use Rattle.statement.specs.declared.Splits.{Splits}
-use Rattle.statement.specs.Rows.{Row, row, clusters, rowsOf, listOf, WellFormed}
+use Rattle.statement.specs.Rows.{Row, row, clusters, listIn, rowsOf, filled, listOf, WellFormed}
 use Rattle.statement.specs.Growing.{kept, enlarged, larger}
 use Rattle.statement.proofs.Listed.{asc-mem, mem-getD}
 use Rattle.splits_list.proofs.Laws.{Roomy, rows-length, cluster-at}
@@ -20,6 +20,11 @@ pub cluster-fits : (most n : ℕ) (s : Splits) → Roomy s → n ≤ 64 → s .t
 cluster-fits most n s room few more w b lb i l =
     let m = mem-getD (clusters (rowsOf s)) i (omega (arith, rows-length s room, length-map (rowsOf s) (λ r. r .cluster))) in
     omega (arith, asc-mem 1 (2 ^ s .taxa) (clusters (rowsOf s)) (w .up) (getD (clusters (rowsOf s)) i 0) m, cluster-at s room i l, pow-mono {i = suc (s .taxa)} {j = 64} (omega arith))
+
+-- columns of zeros are the empty list
+pub blank : (k : ℕ) → listIn (suc k) 0 (replicate 125 0) (replicate 125 0) ≡ listOf (k + 1) []
+unfolding listOf filled
+blank k = ap (λ (m : ℕ). listIn m 0 (replicate 125 0) (replicate 125 0)) (sym (add-one k))
 
 -- what is kept: of the old splits without the newcomer, of the newcomer by itself, of the old splits with it
 abbrev pub tries : (ℕ → ℕ → ℕ → ℕ → ℕ) → Splits → ℕ → ℕ → ℕ

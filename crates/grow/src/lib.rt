@@ -7,7 +7,7 @@ ghost use mathlib.Core.Path.{_≡_};
 ghost use mathlib.Core.List.{[], _∷_};
 ghost use Prim.Native.Nat.{ℕ, suc, _+_, _-_, _^_, _<_, _≤_};
 ghost use lib.ListN.{length, getD};
-ghost use Rattle.statement.specs.Rows.{row, rowsOf, WellFormed};
+ghost use Rattle.statement.specs.Rows.{row, listIn, rowsOf, WellFormed};
 ghost use Rattle.statement.specs.Growing.{kept, larger, grown};
 ghost use Rattle.grow.specs.Source.{trialBy, mostBy, Source};
 ghost use Rattle.grow.specs.Appended.{appended, raised};
@@ -42,29 +42,33 @@ fn try_split(
     table::trial(n, bytes, k, a, c, w)
 }
 
-// One candidate with the newcomer k, of the weight w: pushed at what its trial says, where that is above zero.
+// One candidate with the newcomer k, of the weight w: a row more at what its trial says, where that is above zero. Gives the number of rows.
 fn offer(
     kind: u8,
     n: usize,
     entries: &[u32],
     bytes: &[u8],
     k: usize,
-    t: Splits,
     c: u64,
     w: u32,
-) -> Splits
+    rows: usize,
+    clusters: &mut [u64; 125],
+    weights: &mut [u32; 125],
+) -> usize
     requires { ⌜ Source kind n (now entries) (now bytes) × (k < n) ⌝ }
-    requires { ⌜ t .rows + length (kept (trialBy kind n (now entries) (now bytes) (suc k) k) (row c w ∷ [])) ≤ 125 ⌝ }
-    ensures { λ r. ⌜ r ≡ appended t (kept (trialBy kind n (now (entries .entry)) (now (bytes .entry)) (suc k) k) (row c w ∷ [])) ⌝ }
+    requires { ⌜ rows + length (kept (trialBy kind n (now entries) (now bytes) (suc k) k) (row c w ∷ [])) ≤ 125 ⌝ }
+    ensures { λ r. ⌜ listIn (suc k) r (now (clusters .exit)) (now (weights .exit)) ≡ appended (listIn (suc k) rows (now (clusters .entry)) (now (weights .entry))) (kept (trialBy kind n (now (entries .entry)) (now (bytes .entry)) (suc k) k) (row c w ∷ [])) ⌝ }
 {
     let v = try_split(kind, n, entries, bytes, k + 1, k, c, w);
     if 0 < v {
-        return splits_list::push(t, c, v);
+        clusters[rows] = c;
+        weights[rows] = v;
+        return rows + 1;
     }
-    t
+    rows
 }
 
-// One pass over the old rows, with b added to each cluster: 0 leaves the newcomer out, its own bit takes it in.
+// One pass over the old rows, with b added to each cluster: 0 leaves the newcomer out, its own bit takes it in. Gives the number of rows.
 fn pass(
     kind: u8,
     n: usize,
@@ -73,30 +77,34 @@ fn pass(
     k: usize,
     old: Splits,
     b: u64,
-    into: Splits,
-) -> Splits
+    rows: usize,
+    clusters: &mut [u64; 125],
+    weights: &mut [u32; 125],
+) -> usize
     requires { ⌜ Source kind n (now entries) (now bytes) × (k < n) × (old .rows ≤ 125) ⌝ }
     requires { ⌜ ((i : ℕ) → i < old .rows → b + getD (old .clusters) i 0 < 2 ^ 64) ⌝ }
-    requires { ⌜ into .rows + length (kept (trialBy kind n (now entries) (now bytes) (suc k) k) (raised b (rowsOf old))) ≤ 125 ⌝ }
-    ensures { λ r. ⌜ r ≡ appended into (kept (trialBy kind n (now (entries .entry)) (now (bytes .entry)) (suc k) k) (raised b (rowsOf old))) ⌝ }
+    requires { ⌜ rows + length (kept (trialBy kind n (now entries) (now bytes) (suc k) k) (raised b (rowsOf old))) ≤ 125 ⌝ }
+    ensures { λ r. ⌜ listIn (suc k) r (now (clusters .exit)) (now (weights .exit)) ≡ appended (listIn (suc k) rows (now (clusters .entry)) (now (weights .entry))) (kept (trialBy kind n (now (entries .entry)) (now (bytes .entry)) (suc k) k) (raised b (rowsOf old))) ⌝ }
 {
-    let mut t = into;
+    let mut count = rows;
     let mut i: usize = 0;
-    let rows = old.rows;
-    while i < rows {
-        t = offer(
+    let olds = old.rows;
+    while i < olds {
+        count = offer(
             kind,
             n,
             entries,
             bytes,
             k,
-            t,
             b + old.clusters[i],
             old.weights[i],
+            count,
+            clusters,
+            weights,
         );
         i += 1;
     }
-    t
+    count
 }
 
 // The cluster of one taxon.
@@ -114,9 +122,29 @@ fn add_taxon(kind: u8, n: usize, entries: &[u32], bytes: &[u8], s: Splits) -> Sp
 {
     let k = s.taxa;
     let b = alone(k);
-    let without = pass(kind, n, entries, bytes, k, s, 0, splits_list::empty(k + 1));
-    let single = offer(kind, n, entries, bytes, k, without, b, most(kind));
-    pass(kind, n, entries, bytes, k, s, b, single)
+    let mut cs = [0u64; 125];
+    let mut ws = [0u32; 125];
+    let without = pass(kind, n, entries, bytes, k, s, 0, 0, &mut cs, &mut ws);
+    let most = most(kind);
+    let single = offer(
+        kind,
+        n,
+        entries,
+        bytes,
+        k,
+        b,
+        most,
+        without,
+        &mut cs,
+        &mut ws,
+    );
+    let rows = pass(kind, n, entries, bytes, k, s, b, single, &mut cs, &mut ws);
+    Splits {
+        taxa: k + 1,
+        rows,
+        clusters: cs,
+        weights: ws,
+    }
 }
 
 // Taxa are added while what remains of the allowance covers the next one.

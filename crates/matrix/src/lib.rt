@@ -2,7 +2,7 @@
 // Document 01, "Scores and splits", "Growing and the allowance" and "Refusal numbers".
 use bits::same_side;
 use statement::Outcome;
-ghost use Prim.Native.Nat.{_*_, _^_, _≤_, _<_, min};
+ghost use Prim.Native.Nat.{_+_, _*_, _^_, _≤_, _<_, min};
 ghost use mathlib.Core.Path.{_≡_};
 ghost use mathlib.Core.Logic.{_≢_};
 ghost use lib.IntN.{pos};
@@ -13,25 +13,23 @@ ghost use Rattle.statement.specs.Matrix.{distance, score};
 ghost use Rattle.statement.specs.Growing.{above, matrixTrial};
 ghost use Rattle.statement.specs.Refusals.{outcomeOf, matrixChecks};
 ghost use Rattle.statement.proofs.Parts.{matrixSays, fourOf, withXY, withX};
-ghost use Rattle.matrix.specs.Square.{Square};
+ghost use Rattle.matrix.specs.Square.{Square, Between};
 ghost use Rattle.matrix.specs.Entries.{entryCheck};
 
 // Matrix: the distance of two taxa.
 fn between(n: usize, entries: &[u32], i: usize, j: usize) -> u64
     requires { ⌜ Square n (now entries) × (i < n) × (j < n) ⌝ }
-    ensures { λ r. ⌜ (r ≡ distance n (now (entries .entry)) i j) × (r < 2 ^ 32) ⌝ }
+    ensures { λ r. ⌜ Between n (now (entries .entry)) i j r ⌝ }
 {
     entries[i * n + j] as u64
 }
 
-// Whether entry e fails the check of this number: 3, the diagonal; 4, the limit; 5, the two entries of a pair.
-fn bad(number: u8, n: usize, entries: &[u32], e: usize) -> bool
-    requires { ⌜ Square n (now entries) × (0 < n) × (e < n * n) ⌝ }
-    ensures { λ r. ⌜ r ≡ entryCheck number n (now (entries .entry)) .bad e ⌝ }
+// Whether the entry in row i and column j fails the check of this number: 3, the diagonal; 4, the limit; 5, the two entries of a pair.
+fn bad(number: u8, n: usize, entries: &[u32], i: usize, j: usize) -> bool
+    requires { ⌜ Square n (now entries) × (i < n) × (j < n) ⌝ }
+    ensures { λ r. ⌜ r ≡ entryCheck number n (now (entries .entry)) .bad (i * n + j) ⌝ }
 {
-    let i = e / n;
-    let j = e % n;
-    let entry = entries[e] as u64;
+    let entry = between(n, entries, i, j);
     if number == 3 {
         return i == j && entry != 0;
     }
@@ -41,16 +39,41 @@ fn bad(number: u8, n: usize, entries: &[u32], e: usize) -> bool
     i < j && entry != between(n, entries, j, i)
 }
 
+// A place in the matrix: its row and its column.
+struct Cell {
+    row: usize,
+    column: usize,
+}
+
+// The next place, row by row.
+fn after(n: usize, cell: Cell) -> Cell
+    requires { ⌜ (n ≤ 64) × (cell .row < n) × (cell .column < n) ⌝ }
+    ensures { λ r. ⌜ (r .row * n + r .column ≡ cell .row * n + cell .column + 1) × (r .column < n) ⌝ }
+{
+    if cell.column + 1 == n {
+        return Cell {
+            row: cell.row + 1,
+            column: 0,
+        };
+    }
+    Cell {
+        row: cell.row,
+        column: cell.column + 1,
+    }
+}
+
 // The lowest entry that fails the check of this number, else n * n.
 fn first(number: u8, n: usize, entries: &[u32]) -> usize
     requires { ⌜ Square n (now entries) × (0 < n) ⌝ }
     ensures { λ r. ⌜ r ≡ lowest (entryCheck number n (now (entries .entry)) .bad) (n * n) ⌝ }
 {
-    let mut e = 0;
+    let mut cell = Cell { row: 0, column: 0 };
+    let mut e: usize = 0;
     while e < n * n {
-        if bad(number, n, entries, e) {
+        if bad(number, n, entries, cell.row, cell.column) {
             return e;
         }
+        cell = after(n, cell);
         e += 1;
     }
     e
@@ -88,14 +111,25 @@ fn least(p: u64, q: u64) -> u64
     if p <= q { p } else { q }
 }
 
-// Score: for a pairing wx|yz the lesser of wy + xz and wz + xy, less (wx + yz).
-pub fn score_of(n: usize, entries: &[u32], w: usize, x: usize, y: usize, z: usize) -> i64
+// Score: for a pairing wx|yz the lesser of wy + xz and wz + xy, less (wx + yz). Three of the distances have been read already.
+fn score_of(
+    n: usize,
+    entries: &[u32],
+    w: usize,
+    x: usize,
+    y: usize,
+    z: usize,
+    wx: u64,
+    wy: u64,
+    xy: u64,
+) -> i64
     requires { ⌜ Square n (now entries) × (w < n) × (x < n) × (y < n) × (z < n) ⌝ }
+    requires { ⌜ Between n (now entries) w x wx × Between n (now entries) w y wy × Between n (now entries) x y xy ⌝ }
     ensures { λ r. ⌜ r ≡ score (distance n (now (entries .entry))) w x y z ⌝ }
 {
-    let wy_xz = between(n, entries, w, y) + between(n, entries, x, z);
-    let wz_xy = between(n, entries, w, z) + between(n, entries, x, y);
-    let wx_yz = between(n, entries, w, x) + between(n, entries, y, z);
+    let wy_xz = wy + between(n, entries, x, z);
+    let wz_xy = between(n, entries, w, z) + xy;
+    let wx_yz = wx + between(n, entries, y, z);
     least(wy_xz, wz_xy) as i64 - wx_yz as i64
 }
 
@@ -120,15 +154,28 @@ fn lowered(best: u32, score: i64) -> u32
 }
 
 // A weight, lowered by the four ax|yz, where x is on a's side and y is on the other.
-fn four(n: usize, entries: &[u32], a: usize, c: u64, x: usize, y: usize, z: usize, best: u32) -> u32
+fn four(
+    n: usize,
+    entries: &[u32],
+    a: usize,
+    c: u64,
+    x: usize,
+    y: usize,
+    z: usize,
+    ax: u64,
+    ay: u64,
+    xy: u64,
+    best: u32,
+) -> u32
     requires { ⌜ Square n (now entries) × (a < n) × (x < n) × (y < n) × (z < n) ⌝ }
+    requires { ⌜ Between n (now entries) a x ax × Between n (now entries) a y ay × Between n (now entries) x y xy ⌝ }
     requires { ⌜ (bit c x ≡ bit c a) × (bit c y ≢ bit c a) ⌝ }
     ensures { λ r. ⌜ r ≡ min (fourOf (matrixSays (distance n (now (entries .entry))) a) a c best x y z) best ⌝ }
 {
     if same_side(c, a, z) {
         return best;
     }
-    lowered(best, score_of(n, entries, a, x, y, z))
+    lowered(best, score_of(n, entries, a, x, y, z, ax, ay, xy))
 }
 
 // A weight, lowered by the fours ax|yz with this y and any z, where x is on a's side.
@@ -149,10 +196,13 @@ fn fours_with_xy(
     if same_side(c, a, y) {
         return w;
     }
+    let ax = between(n, entries, a, x);
+    let ay = between(n, entries, a, y);
+    let xy = between(n, entries, x, y);
     let mut best = w;
     let mut z = 0;
     while z < k {
-        best = four(n, entries, a, c, x, y, z, best);
+        best = four(n, entries, a, c, x, y, z, ax, ay, xy, best);
         z += 1;
     }
     best

@@ -1,7 +1,6 @@
 -- What crosses to C: an outcome as one number, and a list in four lent places. A refusal leaves every lent slice and number as it was.
 use Prim.Native.Nat.{ℕ, _+_, _*_, _^_, _≤_, _<_}
 use mathlib.Core.Path.{_≡_}
-use mathlib.Core.List.{List}
 use Rattle.statement.specs.declared.Splits.{Splits}
 use Rattle.statement.specs.declared.Growth.{Growth}
 use Rattle.statement.specs.declared.Reading.{Reading}
@@ -26,10 +25,6 @@ abbrev pub Shares : Outcome → Type 0
 Shares Done = Unit {0}
 Shares Short = Unit {0}
 Shares (Refused number place) = (1 ≤ number) × (number < 254) × (place < 2 ^ 48)
-
--- A LIST in its four lent places
-abbrev pub listIn : ℕ → ℕ → List ℕ → List ℕ → Splits
-listIn taxa rows clusters weights = record { taxa = taxa; rows = rows; clusters = clusters; weights = weights }
 
 -- what growth and a whole run hand back: the reply r, and in the lent places a list s and a number t of trials, where s₀ and t₀ were
 abbrev pub HandedBack : Growth → ℕ → Splits → Splits → ℕ → ℕ → Type 0

@@ -8,13 +8,13 @@ use statement::Step;
 ghost use mathlib.Core.Path.{_≡_};
 ghost use mathlib.Core.Bool.{true, false};
 ghost use mathlib.Core.List.{[]};
-ghost use Rattle.statement.specs.Rows.{listOf};
+ghost use Rattle.statement.specs.Rows.{listIn, listOf};
 ghost use Rattle.statement.specs.Refusals.{outcomeOf};
 ghost use Rattle.statement.specs.Record.{takenChecks};
 ghost use Rattle.statement.specs.Calls.{unlessRefused, runMatrix, runTable, growMatrix, growTable, writeTree, treeWritten, readTree, sumPaths, pathsWritten, findRecord, writeRecord, recordWritten, stepAt, runRecord};
 ghost use Rattle.record_find.specs.Taken.{kindsTaken};
 ghost use Rattle.record_find.specs.Stretch.{bodyStart, bodyLength};
-ghost use Rattle.splitbox.specs.Face.{replyOf, Shares, listIn, HandedBack, ReadBack, Walked};
+ghost use Rattle.splitbox.specs.Face.{replyOf, Shares, HandedBack, ReadBack, Walked};
 
 // An outcome as one number.
 fn reply(said: Outcome) -> u64

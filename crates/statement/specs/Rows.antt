@@ -51,6 +51,10 @@ pub record FullAnswer (Supported : ℕ → Type 0) (Weighs : ℕ → ℕ → Typ
 
 -- THE LIST, with its fixed room of 125 rows
 
+-- a list from its four parts
+abbrev pub listIn : ℕ → ℕ → List ℕ → List ℕ → Splits
+listIn taxa rows clusters weights = record { taxa = taxa; rows = rows; clusters = clusters; weights = weights }
+
 -- two lists of numbers as rows
 abbrev pub rowsFrom : List ℕ → List ℕ → List Row
 rowsFrom [] ws = []

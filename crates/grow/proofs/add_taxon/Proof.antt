@@ -1,16 +1,16 @@
 -- `grow::add_taxon` meets its contract, in three steps (AddTaxon). Assumes nothing.
-use Prim.Native.Nat.{suc, _≤_}
+use Prim.Native.Nat.{_≤_}
 use native.Mathlib.Omega.{arith}
+use native.Mathlib.Numerals.{add-one}
 use mathlib.Core.Path.{_≡_}
-use mathlib.Core.List.{_++_}
 use lib.ListN.{length}
 use borrow.Author.Needs.{needs}
-use Rattle.statement.specs.Rows.{rowsOf, listOf}
+use Rattle.statement.specs.Rows.{rowsOf}
 use Rattle.statement.specs.Growing.{enlarged}
 use Rattle.splits_list.proofs.Laws.{Roomy}
 use Rattle.grow.specs.Source.{trialBy, mostBy}
 use Rattle.grow.proofs.Sources.{room-enough}
-use Rattle.grow.proofs.AddTaxon.{without, single, cluster-fits, first-room, first-is, second-room, second-is, third-room, third-is}
+use Rattle.grow.proofs.AddTaxon.{cluster-fits, blank, first-room, first-is, second-room, second-is, third-room, third-is}
 use Rattle.grow.proofs.add_taxon.Statement.{statement}
 use Rattle.grow.proofs.add_taxon.Tie as tie
 
@@ -26,82 +26,65 @@ room c = let a = c .args in room-enough (a .kind) (a .n) (a .entries .now) (a .b
 alone-requires : tie.Need-alone-requires
 alone-requires c κs = omega (arith, c .before .before .pre .0 .few, c .before .before .pre .1)
 
-add-empty : tie.Need-add-empty
-add-empty c = search needs
-
-empty-requires : tie.Need-empty-requires
-empty-requires c κs = search needs
-
 pass-requires : tie.Need-pass-requires
 pass-requires c κs =
-    let s = c .before .before .before .before in
+    let s = c .before .before .before .before .before in
     let a = s .args in
     let p = s .pre in (
       (p .0, p .1, roomy s .rows),
       (
         cluster-fits (mostBy (a .kind)) (a .n) (a .s) (roomy s) (p .0 .few) (p .1) (p .2) 0 (omega arith),
-        first-room (trialBy (a .kind) (a .n) (a .entries .now) (a .bytes .now)) (mostBy (a .kind)) (a .s) (room s) _ (c .empty .ensures),
+        first-room (trialBy (a .kind) (a .n) (a .entries .now) (a .bytes .now)) (mostBy (a .kind)) (a .s) (room s) _ (blank (a .s .taxa)),
       ),
     )
 
 most-requires : tie.Need-most-requires
 most-requires c κs = search needs
 
--- the list after the first step, and after the second
-first : (c : tie.After-most) → let a = c .before .before .before .before .before .before .args in
-    c .before .pass .result ≡ listOf (suc (a .s .taxa)) (without (trialBy (a .kind) (a .n) (a .entries .now) (a .bytes .now)) (a .s))
-first c =
-    let s = c .before .before .before .before .before .before in
-    let a = s .args in
-    first-is (trialBy (a .kind) (a .n) (a .entries .now) (a .bytes .now)) (mostBy (a .kind)) (a .s) (room s) _ (c .before .before .empty .ensures) _ (c .before .pass .ensures)
-
-second : (c : tie.After-offer) → let a = c .before .before .before .before .before .before .before .args in
-    let trial = trialBy (a .kind) (a .n) (a .entries .now) (a .bytes .now) in
-    c .offer .result ≡ listOf (suc (a .s .taxa)) (without trial (a .s) ++ single trial (mostBy (a .kind)) (a .s))
-second c =
-    let s = c .before .before .before .before .before .before .before in
-    let a = s .args in
-    second-is (trialBy (a .kind) (a .n) (a .entries .now) (a .bytes .now)) (mostBy (a .kind)) (a .s) (room s) _ (first (c .before)) _ _
-    (c .before .before .before .before .alone .ensures) (c .before .most .ensures) _ (c .offer .ensures)
-
 offer-requires : tie.Need-offer-requires
 offer-requires c κs =
-    let s = c .before .before .before .before .before .before in
-    let a = s .args in (
+    let s = c .before .before .before .before .before .before .before .before .before in
+    let a = s .args in
+    let first = first-is (trialBy (a .kind) (a .n) (a .entries .now) (a .bytes .now)) (mostBy (a .kind)) (a .s) (room s) _ (blank (a .s .taxa)) _ (c .before .before .before .pass .ensures) in (
       (s .pre .0, s .pre .1),
-      second-room (trialBy (a .kind) (a .n) (a .entries .now) (a .bytes .now)) (mostBy (a .kind)) (a .s) (room s) _ (first c) _ _
-          (c .before .before .before .alone .ensures) (c .most .ensures),
+      second-room (trialBy (a .kind) (a .n) (a .entries .now) (a .bytes .now)) (mostBy (a .kind)) (a .s) (room s) _ first _ _ (c .before .before .before .before .before .before .alone .ensures) (c .before .before .most .ensures),
     )
 
 pass-requires-2 : tie.Need-pass-requires-2
 pass-requires-2 c κs =
-    let s = c .before .before .before .before .before .before .before in
+    let s = c .before .before .before .before .before .before .before .before .before .before .before .before in
     let a = s .args in
     let p = s .pre in
-    let b = c .before .before .before .before .alone .ensures in (
+    let b = c .before .before .before .before .before .before .before .before .before .alone .ensures in
+    let first = first-is (trialBy (a .kind) (a .n) (a .entries .now) (a .bytes .now)) (mostBy (a .kind)) (a .s) (room s) _ (blank (a .s .taxa)) _ (c .before .before .before .before .before .before .pass .ensures) in
+    let second = second-is (trialBy (a .kind) (a .n) (a .entries .now) (a .bytes .now)) (mostBy (a .kind)) (a .s) (room s) _ first _ _ b (c .before .before .before .before .before .most .ensures) _ (c .before .before .offer .ensures) in (
       (p .0, p .1, roomy s .rows),
       (
         cluster-fits (mostBy (a .kind)) (a .n) (a .s) (roomy s) (p .0 .few) (p .1) (p .2) _ (omega (arith, b)),
-        third-room (trialBy (a .kind) (a .n) (a .entries .now) (a .bytes .now)) (mostBy (a .kind)) (a .s) (room s) _ (second c) _ b,
+        third-room (trialBy (a .kind) (a .n) (a .entries .now) (a .bytes .now)) (mostBy (a .kind)) (a .s) (room s) _ second _ b,
       ),
     )
 
+add-t20 : tie.Need-add-t20
+add-t20 c = search needs
+
 returns : tie.Need-returns
 returns c =
-    let s = c .before .before .before .before .before .before .before .before in
+    let s = c .before .before .before .before .before .before .before .before .before .before .before .before .before in
     let a = s .args in
-    third-is (trialBy (a .kind) (a .n) (a .entries .now) (a .bytes .now)) (mostBy (a .kind)) (a .s) (room s) _ (second (c .before)) _
-    (c .before .before .before .before .before .alone .ensures) _ (c .pass2 .ensures)
+    let b = c .before .before .before .before .before .before .before .before .before .before .alone .ensures in
+    let first = first-is (trialBy (a .kind) (a .n) (a .entries .now) (a .bytes .now)) (mostBy (a .kind)) (a .s) (room s) _ (blank (a .s .taxa)) _ (c .before .before .before .before .before .before .before .pass .ensures) in
+    let second = second-is (trialBy (a .kind) (a .n) (a .entries .now) (a .bytes .now)) (mostBy (a .kind)) (a .s) (room s) _ first _ _ b (c .before .before .before .before .before .before .most .ensures) _ (c .before .before .before .offer .ensures) in
+    rw (add-one (a .s .taxa)) (third-is (trialBy (a .kind) (a .n) (a .entries .now) (a .bytes .now)) (mostBy (a .kind)) (a .s) (room s) _ second _ b _ (c .pass2 .ensures))
 
 pub add-taxon-spec : {M : Type 1} → statement M
 add-taxon-spec =
     tie.close
     (tie.spec
     alone-requires
-    add-empty
-    empty-requires
     pass-requires
     most-requires
     offer-requires
     pass-requires-2
+    add-t20
     returns)

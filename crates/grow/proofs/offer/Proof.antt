@@ -1,9 +1,10 @@
 -- `grow::offer` meets its contract. Assumes nothing.
-use Prim.Native.Nat.{ℕ, suc}
+use Prim.Native.Nat.{ℕ, suc, _<_}
 use native.Mathlib.Numerals.{add-one}
 use mathlib.Core.Path.{_≡_, _∙_, ap}
 use borrow.Author.Needs.{needs}
 use native.Mathlib.Omega.{arith}
+use Rattle.statement.specs.Rows.{listIn}
 use Rattle.grow.specs.Source.{trialBy}
 use Rattle.grow.proofs.Laws.{offer-kept, offer-none, offer-room}
 use Rattle.grow.proofs.offer.Statement.{statement}
@@ -23,22 +24,51 @@ said c =
     let a = c .before .before .before .args in
     c .try-split .ensures ∙ ap (λ (m : ℕ). trialBy (a .kind) (a .n) (a .entries .now) (a .bytes .now) m (a .k) (a .c) (a .w)) (add-one (a .k))
 
-push-requires : tie.Need-push-requires
-push-requires c κs =
+-- there is room for a row that is kept
+room : (c : tie.Then1) → c .before .before .before .before .args .rows < 125
+room c =
     let s = c .before .before .before .before in
     let a = s .args in
-    offer-room (trialBy (a .kind) (a .n) (a .entries .now) (a .bytes .now) (suc (a .k)) (a .k)) (a .t) (a .c) (a .w) _ (said (c .before)) (c .if1 .taken) (s .pre .1)
+    offer-room (trialBy (a .kind) (a .n) (a .entries .now) (a .bytes .now) (suc (a .k)) (a .k)) (listIn (suc (a .k)) (a .rows) (a .clusters .now) (a .weights .now))
+    (a .c) (a .w) _ (said (c .before)) (c .if1 .taken) (s .pre .1)
+
+mul-clusters : tie.Need-mul-clusters
+mul-clusters c = search needs
+
+element-write-clusters : tie.Need-element-write-clusters
+element-write-clusters c = omega (arith, room c)
+
+mul-weights : tie.Need-mul-weights
+mul-weights c = search needs
+
+element-write-weights : tie.Need-element-write-weights
+element-write-weights c = omega (arith, room c)
+
+add-result : tie.Need-add-result
+add-result c = search needs
 
 returns : tie.Need-returns
 returns c =
-    let a = c .before .before .before .before .before .args in
-    c .push .ensures
-    ∙ offer-kept (trialBy (a .kind) (a .n) (a .entries .now) (a .bytes .now) (suc (a .k)) (a .k)) (a .t) (a .c) (a .w) _ (said (c .before .before)) (c .before .if1 .taken)
+    let a = c .before .before .before .before .args in
+    offer-kept (trialBy (a .kind) (a .n) (a .entries .now) (a .bytes .now) (suc (a .k)) (a .k)) (listIn (suc (a .k)) (a .rows) (a .clusters .now) (a .weights .now))
+    (a .c) (a .w) _ (said (c .before)) (c .if1 .taken)
 
 returns-2 : tie.Need-returns-2
 returns-2 c =
     let a = c .before .before .before .before .args in
-    offer-none (trialBy (a .kind) (a .n) (a .entries .now) (a .bytes .now) (suc (a .k)) (a .k)) (a .t) (a .c) (a .w) _ (said (c .before)) (c .if1 .left)
+    offer-none (trialBy (a .kind) (a .n) (a .entries .now) (a .bytes .now) (suc (a .k)) (a .k)) (listIn (suc (a .k)) (a .rows) (a .clusters .now) (a .weights .now))
+    (a .c) (a .w) _ (said (c .before)) (c .if1 .left)
 
 pub offer-spec : {M : Type 1} → statement M
-offer-spec = tie.close (tie.spec add-try-split try-split-requires push-requires returns returns-2)
+offer-spec =
+    tie.close
+    (tie.spec
+    add-try-split
+    try-split-requires
+    mul-clusters
+    element-write-clusters
+    mul-weights
+    element-write-weights
+    add-result
+    returns
+    returns-2)

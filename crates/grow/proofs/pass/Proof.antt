@@ -4,6 +4,7 @@ use native.Mathlib.Omega.{arith}
 use mathlib.Core.Path.{_≡_}
 use lib.ListN.{length}
 use borrow.Author.Needs.{needs}
+use Rattle.statement.specs.Rows.{listIn}
 use Rattle.splits_list.proofs.Laws.{Roomy}
 use Rattle.grow.specs.Source.{trialBy}
 use Rattle.grow.proofs.Laws.{Passing, passing-from, passing-room, passing-turn, passing-end}
@@ -11,10 +12,11 @@ use Rattle.grow.proofs.pass.Statement.{statement}
 use Rattle.grow.proofs.pass.Tie as tie
 
 abbrev Inv-loop : tie.InvT-loop
-Inv-loop kind n entries bytes k b old t₀ i₀ rows t i = Passing (trialBy kind n entries bytes (suc k) k) b old t₀ t i
+Inv-loop kind n entries bytes k b rows clusters₀ weights₀ old count₀ i₀ olds clusters weights count i =
+    Passing (trialBy kind n entries bytes (suc k) k) b old (listIn (suc k) rows clusters₀ weights₀) (listIn (suc k) count clusters weights) i
 
 abbrev μ-loop : tie.MeasureT-loop
-μ-loop kind n entries bytes k b old t₀ i₀ rows t i = rows - i
+μ-loop kind n entries bytes k b rows clusters₀ weights₀ old count₀ i₀ olds clusters weights count i = olds - i
 
 roomy : (c : tie.Start Inv-loop μ-loop) → Roomy (c .args .t6)
 roomy c =
@@ -26,7 +28,7 @@ loop-holds : tie.Need-loop-holds Inv-loop μ-loop
 loop-holds c =
     let s = c .before .before in
     let a = s .args in
-    passing-from (trialBy (a .kind) (a .n) (a .entries .now) (a .bytes .now) (suc (a .k)) (a .k)) (a .b) (a .t6) (a .into) (s .pre .1 .1)
+    passing-from (trialBy (a .kind) (a .n) (a .entries .now) (a .bytes .now) (suc (a .k)) (a .k)) (a .b) (a .t6) (listIn (suc (a .k)) (a .rows) (a .clusters .now) (a .weights .now)) (s .pre .1 .1)
 
 mul-offer : tie.Need-mul-offer Inv-loop μ-loop
 mul-offer c = search needs
@@ -45,12 +47,12 @@ element-copy-out-offer-2 c = search needs
 
 offer-requires : tie.Need-offer-requires Inv-loop μ-loop
 offer-requires c κs =
-    let l = c .before .before .before in
+    let l = c .before .before .before .before .before in
     let s = l .before .before .before in
     let a = s .args in (
       (s .pre .0 .0, s .pre .0 .1),
-      passing-room (trialBy (a .kind) (a .n) (a .entries .now) (a .bytes .now) (suc (a .k)) (a .k)) (a .b) (a .t6) (a .into)
-          (l .loop .t) (l .loop .i) (roomy s) (c .before .before .loop-test .taken) (l .loop .inv),
+      passing-room (trialBy (a .kind) (a .n) (a .entries .now) (a .bytes .now) (suc (a .k)) (a .k)) (a .b) (a .t6) (listIn (suc (a .k)) (a .rows) (a .clusters .now) (a .weights .now))
+          (listIn (suc (a .k)) (l .loop .count) (l .loop .clusters) (l .loop .weights)) (l .loop .i) (roomy s) (c .before .before .before .before .loop-test .taken) (l .loop .inv),
     )
 
 add-i : tie.Need-add-i Inv-loop μ-loop
@@ -61,11 +63,11 @@ loop-less c = search needs
 
 loop-again : tie.Need-loop-again Inv-loop μ-loop
 loop-again c =
-    let l = c .before .before .before .before in
+    let l = c .before .before .before .before .before .before in
     let s = l .before .before .before in
     let a = s .args in
-    passing-turn (trialBy (a .kind) (a .n) (a .entries .now) (a .bytes .now) (suc (a .k)) (a .k)) (a .b) (a .t6) (a .into)
-    (l .loop .t) (l .loop .i) (roomy s) (c .before .before .before .loop-test .taken) (l .loop .inv) _ (c .offer .ensures)
+    passing-turn (trialBy (a .kind) (a .n) (a .entries .now) (a .bytes .now) (suc (a .k)) (a .k)) (a .b) (a .t6) (listIn (suc (a .k)) (a .rows) (a .clusters .now) (a .weights .now))
+    (listIn (suc (a .k)) (l .loop .count) (l .loop .clusters) (l .loop .weights)) (l .loop .i) (roomy s) (c .before .before .before .before .before .loop-test .taken) (l .loop .inv) _ (c .offer .ensures)
 
 returns : tie.Need-returns Inv-loop μ-loop
 returns c =
@@ -73,8 +75,8 @@ returns c =
     let s = l .before .before .before in
     let a = s .args in
     let e : l .loop .i ≡ a .t6 .rows = omega (arith, l .loop .inv .low) in
-    passing-end (trialBy (a .kind) (a .n) (a .entries .now) (a .bytes .now) (suc (a .k)) (a .k)) (a .b) (a .t6) (a .into)
-    (l .loop .t) (l .loop .i) (roomy s) e (l .loop .inv)
+    passing-end (trialBy (a .kind) (a .n) (a .entries .now) (a .bytes .now) (suc (a .k)) (a .k)) (a .b) (a .t6) (listIn (suc (a .k)) (a .rows) (a .clusters .now) (a .weights .now))
+    (listIn (suc (a .k)) (l .loop .count) (l .loop .clusters) (l .loop .weights)) (l .loop .i) (roomy s) e (l .loop .inv)
 
 pub pass-spec : {M : Type 1} → statement M
 pass-spec =

@@ -25,7 +25,7 @@ returns-2 c =
     let other = scored .before in
     let s = other .before .before .before in
     lowered-by _ _ _ _ _ _ _
-    (record { x-side = s .pre .1 .0; y-side = s .pre .1 .1; z-side = off-side _ _ _ (other .before .same-side .ensures) (other .if1 .left) })
+    (record { x-side = s .pre .1 .1 .0; y-side = s .pre .1 .1 .1; z-side = off-side _ _ _ (other .before .same-side .ensures) (other .if1 .left) })
     (c .lowered .ensures) (toZ-ofZ w64 _ (sfits-of (scored .score-of .ok))) (scored .score-of .ensures)
 
 pub four-spec : {M : Type 1} → statement M

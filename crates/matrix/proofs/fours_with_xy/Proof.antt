@@ -9,10 +9,10 @@ use Rattle.matrix.proofs.fours_with_xy.Statement.{statement}
 use Rattle.matrix.proofs.fours_with_xy.Tie as tie
 
 abbrev Inv-loop : tie.InvT-loop
-Inv-loop n entries k a c w x y best₀ z₀ best z = SoFar w (fourOf (matrixSays (distance n entries) a) a c w x y) k z best
+Inv-loop n entries k a c w x y ax ay xy best₀ z₀ best z = SoFar w (fourOf (matrixSays (distance n entries) a) a c w x y) k z best
 
 abbrev μ-loop : tie.MeasureT-loop
-μ-loop n entries k a c w x y best₀ z₀ best z = k - z
+μ-loop n entries k a c w x y ax ay xy best₀ z₀ best z = k - z
 
 same-side-requires : tie.Need-same-side-requires Inv-loop μ-loop
 same-side-requires c κs = search needs
@@ -20,14 +20,31 @@ same-side-requires c κs = search needs
 returns : tie.Need-returns Inv-loop μ-loop
 returns c = y-off _ _ _ _ _ _ _ (on-side _ _ _ (c .before .same-side .ensures) (c .if1 .taken))
 
+between-requires : tie.Need-between-requires Inv-loop μ-loop
+between-requires c κs = search needs
+
+between-requires-2 : tie.Need-between-requires-2 Inv-loop μ-loop
+between-requires-2 c κs = search needs
+
+between-requires-3 : tie.Need-between-requires-3 Inv-loop μ-loop
+between-requires-3 c κs = search needs
+
 loop-holds : tie.Need-loop-holds Inv-loop μ-loop
 loop-holds c = lesser-begun
 
 four-requires : tie.Need-four-requires Inv-loop μ-loop
 four-requires c κs =
-    let other = c .before .before in
-    let s = other .before .before .before in
-    (search needs, (s .pre .1, off-side (s .args .c) (s .args .a) (s .args .y) (other .before .same-side .ensures) (other .if1 .left)))
+    let xy = c .before .before in
+    let ay = xy .before in
+    let ax = ay .before in
+    let other = ax .before in
+    let s = other .before .before .before in (
+      search needs,
+      (
+        (ax .between .ensures, ay .between2 .ensures, xy .between3 .ensures),
+        (s .pre .1, off-side (s .args .c) (s .args .a) (s .args .y) (other .before .same-side .ensures) (other .if1 .left)),
+      ),
+    )
 
 add-z : tie.Need-add-z Inv-loop μ-loop
 add-z c = search needs
@@ -50,6 +67,9 @@ fours-with-xy-spec =
     μ-loop
     same-side-requires
     returns
+    between-requires
+    between-requires-2
+    between-requires-3
     loop-holds
     four-requires
     add-z

@@ -22,17 +22,8 @@ add-wy-xz c = search needs
 between-requires-3 : tie.Need-between-requires-3
 between-requires-3 c κs = search needs
 
-between-requires-4 : tie.Need-between-requires-4
-between-requires-4 c κs = search needs
-
 add-wz-xy : tie.Need-add-wz-xy
 add-wz-xy c = search needs
-
-between-requires-5 : tie.Need-between-requires-5
-between-requires-5 c κs = search needs
-
-between-requires-6 : tie.Need-between-requires-6
-between-requires-6 c κs = search needs
 
 add-wx-yz : tie.Need-add-wx-yz
 add-wx-yz c = search needs
@@ -46,7 +37,7 @@ cast-result c = search needs
 cast-result-2 : tie.Need-cast-result-2
 cast-result-2 c = search needs
 
-small : (c : tie.After-least) → (c .least .result < 2 ^ 63) × (c .before .before .between5 .result + c .before .between6 .result < 2 ^ 63)
+small : (c : tie.After-least) → (c .least .result < 2 ^ 63) × (c .before .before .before .before .before .args .wx + c .before .between3 .result < 2 ^ 63)
 small c = omega arith
 
 sub-result : tie.Need-sub-result
@@ -54,26 +45,25 @@ sub-result c = difference-fits _ _ (small c .0) (small c .1)
 
 returns : tie.Need-returns
 returns c =
-    let xy-wz = c .before .before .before in
-    let xz-wy = xy-wz .before .before in
-    let a = xz-wy .before .before .before .args in
+    let wz = c .before .before in
+    let xz = wz .before in
+    let s = xz .before .before in
+    let a = s .args in
+    let read = s .pre .1 in
     toZ-ofZ w64 _ (sub-result c)
     ∙ difference _ _ (small c .0) (small c .1)
-    ∙ score-is (distance (a .n) (a .entries .now)) (a .w) (a .x) (a .y) (a .z) (xz-wy .before .between .ensures .0) (xz-wy .between2 .ensures .0)
-    (xy-wz .before .between3 .ensures .0) (xy-wz .between4 .ensures .0) (c .before .before .between5 .ensures .0) (c .before .between6 .ensures .0) (c .least .ensures)
+    ∙ score-is (distance (a .n) (a .entries .now)) (a .w) (a .x) (a .y) (a .z) (read .1 .0) (xz .between .ensures .0)
+    (wz .between2 .ensures .0) (read .2 .0) (read .0 .0) (c .before .between3 .ensures .0) (c .least .ensures)
 
 pub score-of-spec : {M : Type 1} → statement M
 score-of-spec =
     tie.close
     (tie.spec
     between-requires
-    between-requires-2
     add-wy-xz
-    between-requires-3
-    between-requires-4
+    between-requires-2
     add-wz-xy
-    between-requires-5
-    between-requires-6
+    between-requires-3
     add-wx-yz
     least-requires
     cast-result

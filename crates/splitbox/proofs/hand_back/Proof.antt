@@ -1,6 +1,6 @@
 -- Nothing is written where the growth is refused, else the list and the trials.
 use mathlib.Core.Path.{refl, sym, _∙_, ap}
-use Rattle.splitbox.specs.Face.{listIn}
+use Rattle.statement.specs.Rows.{listIn}
 use Rattle.splitbox.proofs.Back.{back-refused, back-given}
 use borrow.Author.Needs.{needs}
 use Rattle.splitbox.proofs.hand_back.Statement.{statement}
