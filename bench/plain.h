@@ -1,0 +1,25 @@
+/* The calls of include/splitbox.h in plain C, to hold the library against: same answers, same algorithm (see plain.c).
+ * A list is lent by a pointer to all of it, and a call that refuses leaves it as it was. */
+#ifndef PLAIN_H
+#define PLAIN_H
+
+#include "splitbox.h"
+
+/* The whole run, and growth with an allowance. */
+uint64_t plain_run_matrix(size_t n, const uint32_t *entries, size_t length, splitbox_list *list, uint64_t *trials);
+uint64_t plain_run_table(size_t n, const uint8_t *bytes, size_t length, splitbox_list *list, uint64_t *trials);
+uint64_t plain_grow_matrix(size_t n, const uint32_t *entries, size_t length, uint64_t allowance, splitbox_list *list,
+                           uint64_t *trials);
+uint64_t plain_grow_table(size_t n, const uint8_t *bytes, size_t length, uint64_t allowance, splitbox_list *list,
+                          uint64_t *trials);
+
+/* The tree and the path sums of a list with k = n. */
+uint64_t plain_write_tree(size_t n, const splitbox_list *list, uint8_t *out, size_t out_length);
+uint64_t plain_read_tree(size_t n, const uint8_t *body, size_t length, splitbox_list *list);
+uint64_t plain_sum_paths(size_t n, const splitbox_list *list, uint64_t *out, size_t out_length);
+
+/* A record at the start of the bytes: found, and run. */
+uint64_t plain_find_record(const uint8_t *bytes, size_t length);
+uint64_t plain_run_record(const uint8_t *bytes, size_t length, splitbox_list *list, uint64_t *trials);
+
+#endif
