@@ -2,10 +2,11 @@
 use Prim.Native.Nat.{ℕ, _≤_}
 use native.Mathlib.Omega.{arith}
 use mathlib.Core.Path.{_≡_, refl, sym, _∙_, ap, subst}
-use mathlib.Core.Logic.{_≢_, _↔_}
+use mathlib.Core.Logic.{_≢_, _↔_, inl, inr}
 use mathlib.Core.List.{List}
+use Rattle.statement.specs.Cluster.{Split}
 use Rattle.statement.specs.Matrix.{distance, score, weightLimit, AcceptedMatrix}
-use Rattle.statement.specs.Table.{tableWeight, AcceptedTable}
+use Rattle.statement.specs.Table.{tableWeight, AcceptedTable, TableSupported}
 use Rattle.statement.specs.Rows.{Listed, rowsOf, listOf}
 use Rattle.statement.specs.Growing.{matrixTrial, tableTrial, rowsAt, wholeRun}
 use Rattle.statement.specs.Calls.{runMatrix, runTable}
@@ -17,7 +18,7 @@ use Rattle.statement.proofs.Run.{run-full, run-well, run-few, run-bound}
 use Rattle.statement.proofs.Walks.{walks-end}
 use Rattle.statement.proofs.Accepted.{matrix-accepted, table-accepted}
 use Rattle.statement.proofs.Ties.{theMatrix, matrix-plain, matrix-answer, theTable, table-plain, table-answer, stands-above}
-use Rattle.claims.specs.Demands.{Way, groupNumber, EveryFour, MatrixAbove, TableAbove, Demand3, FewTrials, MatrixWeights, TableWeights}
+use Rattle.claims.specs.Demands.{Way, groupNumber, EveryFour, MatrixAbove, TableAbove, Demand3, GroupOfOne, FewTrials, MatrixWeights, TableWeights}
 use Rattle.claims.proofs.Ways.{number-way, way-supported}
 
 -- what holds of the whole run of any plain rule; Above says of a four what the rule says
@@ -121,3 +122,10 @@ module _ (n : ℕ) (bytes : List ℕ) (accepted : AcceptedTable n bytes) where
       (table-answer n bytes n (rowsAt (tableTrial bytes) tableWeight n) .0
       (run-full (theTable n bytes) tableWeight (tableTrial bytes) (table-plain n bytes) n (omega (arith, accepted .two)) (omega arith))
       .weigh)
+
+-- "A split with a group of one is therefore always supported": a table is asked about no four of it
+pub one-supported : (bytes : List ℕ) (k c : ℕ) → Split k c → GroupOfOne k c → TableSupported bytes k c
+one-supported bytes k c split (inl one) =
+    record { split = split; fours = λ u u′ v v′ a du dv. absurd (dv (one v v′ (a .v-below) (a .v′-below) (a .v-in) (a .v′-in))) }
+one-supported bytes k c split (inr one) =
+    record { split = split; fours = λ u u′ v v′ a du dv. absurd (du (one u u′ (a .u-below) (a .u′-below) (a .u-out) (a .u′-out))) }

@@ -4,3 +4,4 @@ pub mod Demand1
 pub mod Growing
 pub mod Trees
 pub mod Records
+pub mod Spare

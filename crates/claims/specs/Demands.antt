@@ -1,7 +1,7 @@
 -- THE THREE DEMANDS, as statements. What stands in them are the definitions of the crate `statement`, and nothing else has to be believed.
 use Prim.Native.Nat.{ℕ, suc, _+_, _*_, _-_, _^_, _≤_, _<_}
 use mathlib.Core.Path.{_≡_}
-use mathlib.Core.Logic.{_≢_, _↔_}
+use mathlib.Core.Logic.{_≢_, _⊎_, _↔_}
 use mathlib.Core.Bool.{Bool, true, not, Bool·beq}
 use mathlib.Core.List.{List}
 use lib.ListN.{length}
@@ -11,10 +11,10 @@ use Rattle.statement.specs.declared.Splits.{Splits}
 use Rattle.statement.specs.declared.Growth.{Growth}
 use Rattle.statement.specs.declared.Outcome.{Outcome}
 use Rattle.statement.specs.declared.Outcome.the-variants.{Done, Refused}
-use Rattle.statement.specs.Cluster.{groupOf, Conflict}
+use Rattle.statement.specs.Cluster.{In, Out, groupOf, Conflict}
 use Rattle.statement.specs.Matrix.{distance, score, weightLimit, MatrixWeight}
 use Rattle.statement.specs.Table.{stands, tableWeight}
-use Rattle.statement.specs.Rows.{Row, clusters, Listed, weightIn, Ascending, rowsOf, listOf, WellFormed}
+use Rattle.statement.specs.Rows.{Row, clusters, Listed, weightIn, Ascending, rowsOf, listOf, Same, WellFormed}
 use Rattle.statement.specs.Tree.{root, treeOf, walk}
 use Rattle.statement.specs.Bytes.{treeIn, treeLength}
 use Rattle.statement.specs.Refusals.{Check, Given}
@@ -57,6 +57,11 @@ pub record Demand3 (n : ℕ) (Above : ℕ → ℕ → ℕ → ℕ → Type 0) (r
   pub at-most : reply .list .rows ≤ 2 * n - 3
   pub walks-end : (v : ℕ) → v ≤ reply .list .rows
       → walk (treeOf n (rowsOf (reply .list))) (reply .list .rows) v ≡ root (treeOf n (rowsOf (reply .list)))
+
+-- "A split with a group of one": two taxa of the cluster, or two of the other group, are the same taxon
+abbrev pub GroupOfOne : ℕ → ℕ → Type 0
+GroupOfOne k c =
+    ((v v′ : ℕ) → v < k → v′ < k → In c v → In c v′ → v ≡ v′) ⊎ ((u u′ : ℕ) → u < k → u′ < k → Out c u → Out c u′ → u ≡ u′)
 
 -- and what it costs: at most 2n² - 7n + 7 trials
 abbrev pub FewTrials : ℕ → Growth → Type 0
@@ -112,3 +117,19 @@ pub record Grows (Rule : List Row → List Row → Type 0) (Answer : ℕ → Lis
   pub rule : Rule (rowsOf s) (rowsOf more)
   pub well : WellFormed most n more
   pub answer : Answer (s .taxa) (rowsOf s) → Answer (suc (s .taxa)) (rowsOf more)
+
+-- "Spare rows of a given list aren't looked at": two lists that are the same, each in its room of 125 rows, get replies that say the same
+pub record InRoom (s : Splits) : Type 0 where
+  pub clusters : length (s .clusters) ≡ 125
+  pub weights : length (s .weights) ≡ 125
+
+pub record SameReply (g h : Growth) : Type 0 where
+  pub outcome : g .outcome ≡ h .outcome
+  pub list : Same (g .list) (h .list)
+  pub trials : g .trials ≡ h .trials
+
+abbrev pub SpareUnseen : (Splits → Growth) → Type 0
+SpareUnseen reply = (s t : Splits) → InRoom s → InRoom t → Same s t → SameReply (reply s) (reply t)
+
+abbrev pub SpareUnseenBy : {A : Type 0} → (Splits → A) → Type 0
+SpareUnseenBy reply = (s t : Splits) → InRoom s → InRoom t → Same s t → reply s ≡ reply t

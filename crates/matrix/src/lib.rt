@@ -2,7 +2,7 @@
 // Document 01, "Scores and splits", "Growing and the allowance" and "Refusal numbers".
 use bits::same_side;
 use statement::Outcome;
-ghost use Prim.Native.Nat.{_+_, _*_, _^_, _≤_, _<_, min};
+ghost use Prim.Native.Nat.{_+_, _*_, _≤_, _<_, min};
 ghost use mathlib.Core.Path.{_≡_};
 ghost use mathlib.Core.Logic.{_≢_};
 ghost use lib.IntN.{pos};

@@ -9,7 +9,6 @@ ghost use mathlib.Core.List.{_++_};
 ghost use Prim.Native.Nat.{_+_, _*_, _≤_, _<_};
 ghost use lib.ListN.{length, take, drop};
 ghost use lib.Seq.{paste};
-ghost use Rattle.statement.specs.Bytes.{fromBytes};
 ghost use Rattle.statement.specs.Refusals.{outcomeOf};
 ghost use Rattle.statement.specs.Record.{recordLength, summed, recordOf};
 ghost use Rattle.statement.specs.Calls.{writeRecord, recordWritten};

@@ -1,5 +1,5 @@
 -- Nothing is written where the growth is refused, else the list and the trials.
-use mathlib.Core.Path.{refl, sym, _∙_, ap}
+use mathlib.Core.Path.{sym, _∙_}
 use Rattle.statement.specs.Rows.{listIn}
 use Rattle.splitbox.proofs.Back.{back-refused, back-given}
 use borrow.Author.Needs.{needs}

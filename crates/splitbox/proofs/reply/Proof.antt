@@ -1,6 +1,6 @@
 -- An outcome as one number: the place is small, so nothing wraps.
 use native.Mathlib.Omega.{arith}
-use mathlib.Core.Path.{refl, sym, _∙_, ap}
+use mathlib.Core.Path.{refl}
 use borrow.Author.Needs.{needs}
 use Rattle.splitbox.proofs.reply.Statement.{statement}
 use Rattle.splitbox.proofs.reply.Tie as tie

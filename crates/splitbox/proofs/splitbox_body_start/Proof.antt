@@ -1,6 +1,5 @@
 -- The body begins after the header, where a record is found.
 use mathlib.Core.Path.{refl, sym, _∙_, ap}
-use mathlib.Core.Bool.{cond}
 use borrow.Author.Tests.{eq-eqb, ne-eqb}
 use Rattle.statement.specs.Refusals.{numberOf}
 use borrow.Author.Needs.{needs}

@@ -1,6 +1,6 @@
 -- The reply and the lent places are those of growth on a matrix.
 use Rattle.splitbox.proofs.Places.{matrix-growth-fits}
-use mathlib.Core.Path.{refl, sym, _∙_, ap}
+use mathlib.Core.Path.{_∙_, ap}
 use Rattle.statement.specs.declared.Splits.{Splits}
 use Rattle.statement.specs.Calls.{growMatrix}
 use borrow.Author.Needs.{needs}

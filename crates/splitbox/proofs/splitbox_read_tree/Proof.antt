@@ -1,7 +1,5 @@
 -- The reply and the lent places are those of the tree read.
 use Rattle.splitbox.proofs.Places.{reading-fits}
-use mathlib.Core.Path.{refl, sym, _∙_, ap}
-use Rattle.statement.specs.declared.Reading.{Reading}
 use Rattle.splitbox.proofs.Back.{read-back}
 use borrow.Author.Needs.{needs}
 use Rattle.splitbox.proofs.splitbox_read_tree.Statement.{statement}

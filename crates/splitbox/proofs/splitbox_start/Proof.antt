@@ -1,5 +1,5 @@
 -- The list from which growth starts.
-use mathlib.Core.Path.{refl, sym, _∙_, ap}
+use mathlib.Core.Path.{_∙_}
 use borrow.Author.Needs.{needs}
 use Rattle.splitbox.proofs.splitbox_start.Statement.{statement}
 use Rattle.splitbox.proofs.splitbox_start.Tie as tie

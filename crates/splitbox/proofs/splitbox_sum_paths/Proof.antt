@@ -4,7 +4,7 @@ use Rattle.statement.specs.declared.Outcome.{Outcome}
 use Rattle.statement.specs.Calls.{sumPaths, pathsWritten}
 use Rattle.splitbox.specs.Face.{replyOf}
 use Rattle.splitbox.proofs.Places.{paths-fit}
-use mathlib.Core.Path.{refl, sym, _∙_, ap}
+use mathlib.Core.Path.{_∙_, ap}
 use borrow.Author.Needs.{needs}
 use Rattle.splitbox.proofs.splitbox_sum_paths.Statement.{statement}
 use Rattle.splitbox.proofs.splitbox_sum_paths.Tie as tie

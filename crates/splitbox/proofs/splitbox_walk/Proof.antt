@@ -1,5 +1,5 @@
 -- The reply and the lent places are those of the walker's step.
-use mathlib.Core.Path.{refl, sym, _∙_, ap}
+use mathlib.Core.Path.{refl, sym, _∙_}
 use borrow.Author.Needs.{needs}
 use Rattle.splitbox.proofs.splitbox_walk.Statement.{statement}
 use Rattle.splitbox.proofs.splitbox_walk.Tie as tie

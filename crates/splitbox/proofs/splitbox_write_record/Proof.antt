@@ -2,7 +2,7 @@
 use Rattle.statement.specs.declared.Outcome.{Outcome}
 use Rattle.splitbox.specs.Face.{replyOf}
 use Rattle.splitbox.proofs.Places.{writing-fits}
-use mathlib.Core.Path.{refl, sym, _∙_, ap}
+use mathlib.Core.Path.{_∙_, ap}
 use borrow.Author.Needs.{needs}
 use Rattle.splitbox.proofs.splitbox_write_record.Statement.{statement}
 use Rattle.splitbox.proofs.splitbox_write_record.Tie as tie

@@ -4,7 +4,7 @@ use Rattle.statement.specs.declared.Outcome.{Outcome}
 use Rattle.statement.specs.Calls.{writeTree, treeWritten}
 use Rattle.splitbox.specs.Face.{replyOf}
 use Rattle.splitbox.proofs.Places.{tree-fits}
-use mathlib.Core.Path.{refl, sym, _∙_, ap}
+use mathlib.Core.Path.{_∙_, ap}
 use borrow.Author.Needs.{needs}
 use Rattle.splitbox.proofs.splitbox_write_tree.Statement.{statement}
 use Rattle.splitbox.proofs.splitbox_write_tree.Tie as tie
