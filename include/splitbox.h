@@ -133,9 +133,9 @@ size_t splitbox_body_length(const uint8_t *bytes, size_t bytes_length);
 uint64_t splitbox_write_record(uint8_t kind, size_t n, const uint8_t *body, size_t body_length, uint8_t *out,
                                size_t out_length);
 
-/* A WALKER over a file of records: the caller keeps the place, 0 at first. A record found: DONE, the start and the length of its
- * body are written and the place moves behind the record. END at or past the end of the bytes. At a refused record (as by
- * splitbox_find_record) and at the end nothing moves. */
+/* A WALKER over a file of records: the caller keeps the place, 0 at first. A record found: DONE, the start of its body (counted
+ * from the start of the file) and its length are written, and the place moves behind the record. END at or past the end of the
+ * bytes. At a refused record (as by splitbox_find_record) and at the end nothing moves. */
 uint64_t splitbox_walk(const uint8_t *file, size_t file_length, size_t *place, size_t *start, size_t *length);
 
 /* THE MAIN JOB: the record at the start of the bytes, a matrix or a table, found and run whole. Refuses what
