@@ -31,6 +31,10 @@ abbrev pub HandedBack : Growth → ℕ → Splits → Splits → ℕ → ℕ →
 HandedBack g r s₀ s t₀ t =
     (r ≡ replyOf (g .outcome)) × (s ≡ unlessRefused (g .outcome) s₀ (g .list)) × (t ≡ unlessRefused (g .outcome) t₀ (g .trials))
 
+-- the same where the list that was there is what is grown
+abbrev pub GrownBack : (Splits → Growth) → ℕ → Splits → Splits → ℕ → ℕ → Type 0
+GrownBack grow r s₀ s t₀ t = HandedBack (grow s₀) r s₀ s t₀ t
+
 -- the same for a tree read
 abbrev pub ReadBack : Reading → ℕ → Splits → Splits → Type 0
 ReadBack g r s₀ s = (r ≡ replyOf (g .outcome)) × (s ≡ unlessRefused (g .outcome) s₀ (g .list))

@@ -14,7 +14,7 @@ ghost use Rattle.statement.specs.Record.{takenChecks};
 ghost use Rattle.statement.specs.Calls.{unlessRefused, runMatrix, runTable, growMatrix, growTable, writeTree, treeWritten, readTree, sumPaths, pathsWritten, findRecord, writeRecord, recordWritten, stepAt, runRecord};
 ghost use Rattle.record_find.specs.Taken.{kindsTaken};
 ghost use Rattle.record_find.specs.Stretch.{bodyStart, bodyLength};
-ghost use Rattle.splitbox.specs.Face.{replyOf, Shares, HandedBack, ReadBack, Walked};
+ghost use Rattle.splitbox.specs.Face.{replyOf, Shares, HandedBack, GrownBack, ReadBack, Walked};
 
 // An outcome as one number.
 fn reply(said: Outcome) -> u64
@@ -94,7 +94,10 @@ fn hand_back(
     trials: &mut u64,
 ) -> u64
     requires { ⌜ Shares (g .outcome) ⌝ }
-    ensures { λ r. ⌜ HandedBack g r (listIn (now (taxa .entry)) (now (rows .entry)) (now (clusters .entry)) (now (weights .entry))) (listIn (now (taxa .exit)) (now (rows .exit)) (now (clusters .exit)) (now (weights .exit))) (now (trials .entry)) (now (trials .exit)) ⌝ }
+    ensures { λ r. ⌜ HandedBack g r
+        (listIn (now (taxa .entry)) (now (rows .entry)) (now (clusters .entry)) (now (weights .entry)))
+        (listIn (now (taxa .exit)) (now (rows .exit)) (now (clusters .exit)) (now (weights .exit)))
+        (now (trials .entry)) (now (trials .exit)) ⌝ }
 {
     let said = g.outcome;
     if is_refused(said) {
@@ -116,7 +119,10 @@ pub extern "C" fn splitbox_run_matrix(
     weights: &mut [u32; 125],
     trials: &mut u64,
 ) -> u64
-    ensures { λ r. ⌜ HandedBack (runMatrix n (now (entries .entry))) r (listIn (now (taxa .entry)) (now (rows .entry)) (now (clusters .entry)) (now (weights .entry))) (listIn (now (taxa .exit)) (now (rows .exit)) (now (clusters .exit)) (now (weights .exit))) (now (trials .entry)) (now (trials .exit)) ⌝ }
+    ensures { λ r. ⌜ HandedBack (runMatrix n (now (entries .entry))) r
+        (listIn (now (taxa .entry)) (now (rows .entry)) (now (clusters .entry)) (now (weights .entry)))
+        (listIn (now (taxa .exit)) (now (rows .exit)) (now (clusters .exit)) (now (weights .exit)))
+        (now (trials .entry)) (now (trials .exit)) ⌝ }
 {
     hand_back(
         run::run_matrix(n, entries),
@@ -139,7 +145,10 @@ pub extern "C" fn splitbox_run_table(
     weights: &mut [u32; 125],
     trials: &mut u64,
 ) -> u64
-    ensures { λ r. ⌜ HandedBack (runTable n (now (bytes .entry))) r (listIn (now (taxa .entry)) (now (rows .entry)) (now (clusters .entry)) (now (weights .entry))) (listIn (now (taxa .exit)) (now (rows .exit)) (now (clusters .exit)) (now (weights .exit))) (now (trials .entry)) (now (trials .exit)) ⌝ }
+    ensures { λ r. ⌜ HandedBack (runTable n (now (bytes .entry))) r
+        (listIn (now (taxa .entry)) (now (rows .entry)) (now (clusters .entry)) (now (weights .entry)))
+        (listIn (now (taxa .exit)) (now (rows .exit)) (now (clusters .exit)) (now (weights .exit)))
+        (now (trials .entry)) (now (trials .exit)) ⌝ }
 {
     hand_back(
         run::run_table(n, bytes),
@@ -163,7 +172,10 @@ pub extern "C" fn splitbox_grow_matrix(
     weights: &mut [u32; 125],
     trials: &mut u64,
 ) -> u64
-    ensures { λ r. ⌜ HandedBack (growMatrix n (now (entries .entry)) (listIn (now (taxa .entry)) (now (rows .entry)) (now (clusters .entry)) (now (weights .entry))) allowance) r (listIn (now (taxa .entry)) (now (rows .entry)) (now (clusters .entry)) (now (weights .entry))) (listIn (now (taxa .exit)) (now (rows .exit)) (now (clusters .exit)) (now (weights .exit))) (now (trials .entry)) (now (trials .exit)) ⌝ }
+    ensures { λ r. ⌜ GrownBack (λ given. growMatrix n (now (entries .entry)) given allowance) r
+        (listIn (now (taxa .entry)) (now (rows .entry)) (now (clusters .entry)) (now (weights .entry)))
+        (listIn (now (taxa .exit)) (now (rows .exit)) (now (clusters .exit)) (now (weights .exit)))
+        (now (trials .entry)) (now (trials .exit)) ⌝ }
 {
     let s = given(*taxa, *rows, clusters, weights);
     hand_back(
@@ -188,7 +200,10 @@ pub extern "C" fn splitbox_grow_table(
     weights: &mut [u32; 125],
     trials: &mut u64,
 ) -> u64
-    ensures { λ r. ⌜ HandedBack (growTable n (now (bytes .entry)) (listIn (now (taxa .entry)) (now (rows .entry)) (now (clusters .entry)) (now (weights .entry))) allowance) r (listIn (now (taxa .entry)) (now (rows .entry)) (now (clusters .entry)) (now (weights .entry))) (listIn (now (taxa .exit)) (now (rows .exit)) (now (clusters .exit)) (now (weights .exit))) (now (trials .entry)) (now (trials .exit)) ⌝ }
+    ensures { λ r. ⌜ GrownBack (λ given. growTable n (now (bytes .entry)) given allowance) r
+        (listIn (now (taxa .entry)) (now (rows .entry)) (now (clusters .entry)) (now (weights .entry)))
+        (listIn (now (taxa .exit)) (now (rows .exit)) (now (clusters .exit)) (now (weights .exit)))
+        (now (trials .entry)) (now (trials .exit)) ⌝ }
 {
     let s = given(*taxa, *rows, clusters, weights);
     hand_back(
@@ -211,7 +226,10 @@ pub extern "C" fn splitbox_run_record(
     weights: &mut [u32; 125],
     trials: &mut u64,
 ) -> u64
-    ensures { λ r. ⌜ HandedBack (runRecord (now (bytes .entry))) r (listIn (now (taxa .entry)) (now (rows .entry)) (now (clusters .entry)) (now (weights .entry))) (listIn (now (taxa .exit)) (now (rows .exit)) (now (clusters .exit)) (now (weights .exit))) (now (trials .entry)) (now (trials .exit)) ⌝ }
+    ensures { λ r. ⌜ HandedBack (runRecord (now (bytes .entry))) r
+        (listIn (now (taxa .entry)) (now (rows .entry)) (now (clusters .entry)) (now (weights .entry)))
+        (listIn (now (taxa .exit)) (now (rows .exit)) (now (clusters .exit)) (now (weights .exit)))
+        (now (trials .entry)) (now (trials .exit)) ⌝ }
 {
     hand_back(
         job::run_record(bytes),
@@ -250,7 +268,9 @@ pub extern "C" fn splitbox_read_tree(
     clusters: &mut [u64; 125],
     weights: &mut [u32; 125],
 ) -> u64
-    ensures { λ r. ⌜ ReadBack (readTree n (now (body .entry))) r (listIn (now (taxa .entry)) (now (rows .entry)) (now (clusters .entry)) (now (weights .entry))) (listIn (now (taxa .exit)) (now (rows .exit)) (now (clusters .exit)) (now (weights .exit))) ⌝ }
+    ensures { λ r. ⌜ ReadBack (readTree n (now (body .entry))) r
+        (listIn (now (taxa .entry)) (now (rows .entry)) (now (clusters .entry)) (now (weights .entry)))
+        (listIn (now (taxa .exit)) (now (rows .exit)) (now (clusters .exit)) (now (weights .exit))) ⌝ }
 {
     let read = tree_read::read_tree(n, body);
     let outcome = read.outcome;
@@ -344,7 +364,10 @@ pub extern "C" fn splitbox_walk(
     start: &mut usize,
     length: &mut usize,
 ) -> u64
-    ensures { λ r. ⌜ Walked (stepAt (now (file .entry)) (now (place .entry))) r (now (place .entry)) (now (place .exit)) (now (start .entry)) (now (start .exit)) (now (length .entry)) (now (length .exit)) ⌝ }
+    ensures { λ r. ⌜ Walked (stepAt (now (file .entry)) (now (place .entry))) r
+        (now (place .entry)) (now (place .exit))
+        (now (start .entry)) (now (start .exit))
+        (now (length .entry)) (now (length .exit)) ⌝ }
 {
     match walker::step_at(file, *place) {
         Step::End => 254,
