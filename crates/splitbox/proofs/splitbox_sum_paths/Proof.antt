@@ -1,10 +1,7 @@
 -- The reply and the slice are those of the path sums.
-use Rattle.statement.specs.declared.Splits.{Splits}
-use Rattle.statement.specs.declared.Outcome.{Outcome}
 use Rattle.statement.specs.Calls.{sumPaths, pathsWritten}
-use Rattle.splitbox.specs.Face.{replyOf}
 use Rattle.splitbox.proofs.Places.{paths-fit}
-use mathlib.Core.Path.{_∙_, ap}
+use Rattle.splitbox.proofs.Back.{out-back}
 use borrow.Author.Needs.{needs}
 use Rattle.splitbox.proofs.splitbox_sum_paths.Statement.{statement}
 use Rattle.splitbox.proofs.splitbox_sum_paths.Tie as tie
@@ -25,10 +22,8 @@ returns : tie.Need-returns
 returns c =
     let wrote = c .before .before .before in
     let a = wrote .before .before .before .before .args in
-    let s = wrote .before .before .given .ensures in (
-      c .reply .ensures ∙ ap (λ (o : Outcome). replyOf o) (wrote .sum-paths .ensures .0 ∙ ap (λ (t : Splits). sumPaths (a .n) t (a .out .now)) s),
-      wrote .sum-paths .ensures .1 ∙ ap (λ (t : Splits). pathsWritten (a .n) t (a .out .now)) s,
-    )
+    out-back (λ t. sumPaths (a .n) t (a .out .now)) (λ t. pathsWritten (a .n) t (a .out .now)) _ _ (wrote .before .before .given .ensures) _ _ _
+    (c .reply .ensures) (wrote .sum-paths .ensures .0) (wrote .sum-paths .ensures .1)
 
 pub splitbox-sum-paths-spec : {M : Type 1} → statement M
 splitbox-sum-paths-spec =

@@ -1,10 +1,7 @@
 -- The reply and the slice are those of the tree written.
-use Rattle.statement.specs.declared.Splits.{Splits}
-use Rattle.statement.specs.declared.Outcome.{Outcome}
 use Rattle.statement.specs.Calls.{writeTree, treeWritten}
-use Rattle.splitbox.specs.Face.{replyOf}
 use Rattle.splitbox.proofs.Places.{tree-fits}
-use mathlib.Core.Path.{_∙_, ap}
+use Rattle.splitbox.proofs.Back.{out-back}
 use borrow.Author.Needs.{needs}
 use Rattle.splitbox.proofs.splitbox_write_tree.Statement.{statement}
 use Rattle.splitbox.proofs.splitbox_write_tree.Tie as tie
@@ -25,10 +22,8 @@ returns : tie.Need-returns
 returns c =
     let wrote = c .before .before .before in
     let a = wrote .before .before .before .before .args in
-    let s = wrote .before .before .given .ensures in (
-      c .reply .ensures ∙ ap (λ (o : Outcome). replyOf o) (wrote .write-tree .ensures .0 ∙ ap (λ (t : Splits). writeTree (a .n) t (a .out .now)) s),
-      wrote .write-tree .ensures .1 ∙ ap (λ (t : Splits). treeWritten (a .n) t (a .out .now)) s,
-    )
+    out-back (λ t. writeTree (a .n) t (a .out .now)) (λ t. treeWritten (a .n) t (a .out .now)) _ _ (wrote .before .before .given .ensures) _ _ _
+    (c .reply .ensures) (wrote .write-tree .ensures .0) (wrote .write-tree .ensures .1)
 
 pub splitbox-write-tree-spec : {M : Type 1} → statement M
 splitbox-write-tree-spec =
