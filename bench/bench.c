@@ -209,7 +209,7 @@ static const struct {
     void (*fill)(size_t n, uint32_t *entries);
     call *library, *c;
 } runs[] = {
-    {"random matrix", random_matrix, library_run_matrix, c_run_matrix},
+    {"uniform matrix", uniform_matrix, library_run_matrix, c_run_matrix},
     {"tree-made matrix", tree_matrix, library_run_matrix, c_run_matrix},
     {"noisy matrix", noisy_matrix, library_run_matrix, c_run_matrix},
     {"tree-made table", fill_table, library_run_table, c_run_table},

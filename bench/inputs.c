@@ -25,7 +25,7 @@ static void put_pair(size_t n, uint32_t *entries, size_t i, size_t j, uint32_t d
     entries[j * n + i] = distance;
 }
 
-void random_matrix(size_t n, uint32_t *entries)
+void uniform_matrix(size_t n, uint32_t *entries)
 {
     for (size_t i = 0; i < n; i++) {
         entries[i * n + i] = 0;

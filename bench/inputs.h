@@ -10,7 +10,7 @@
 #define RECORD_ROOM SPLITBOX_RECORD(TABLE_ROOM)
 
 /* Distances from 1 to 1,000,000, each by itself. */
-void random_matrix(size_t n, uint32_t *entries);
+void uniform_matrix(size_t n, uint32_t *entries);
 
 /* The path sums of a random tree whose every inner vertex has three edges, each of a whole length above zero. */
 void tree_matrix(size_t n, uint32_t *entries);
