@@ -6,7 +6,7 @@ ghost use mathlib.Core.Path.{_≡_};
 ghost use Prim.Native.Nat.{ℕ, _*_, _<_, _≤_};
 ghost use lib.ListN.{length};
 ghost use Rattle.statement.specs.Matrix.{weightLimit};
-ghost use Rattle.statement.specs.Rows.{row, weights, Mem, rowsOf, WellFormed};
+ghost use Rattle.statement.specs.Rows.{row, weights, Mem, listIn, rowsOf, WellFormed};
 ghost use Rattle.statement.specs.Tree.{treeOf, pathSums};
 ghost use Rattle.statement.specs.Calls.{sumPaths, pathsWritten};
 ghost use Rattle.paths.specs.RowSum.{parting, rowSum};
@@ -22,17 +22,16 @@ fn parting_weight(cluster: u64, weight: u32, i: usize, j: usize) -> u64
     weight as u64
 }
 
-// The path between taxa i and j: the rows that part them, summed.
-fn row_sum(s: Splits, i: usize, j: usize) -> u64
-    requires { ⌜ (i < 64) × (j < 64) × (s .rows ≤ 125) ⌝ }
-    requires { ⌜ ((w : ℕ) → Mem w (weights (rowsOf s)) → w ≤ weightLimit) ⌝ }
-    ensures { λ r. ⌜ r ≡ rowSum (rowsOf s) i j ⌝ }
+// The path between taxa i and j: those of m rows that part them, summed.
+fn row_sum(m: usize, cs: &[u64; 125], ws: &[u32; 125], i: usize, j: usize) -> u64
+    requires { ⌜ (i < 64) × (j < 64) × (m ≤ 125) × (length (now cs) ≡ 125) × (length (now ws) ≡ 125) ⌝ }
+    requires { ⌜ ((w : ℕ) → Mem w (weights (rowsOf (listIn 0 m (now cs) (now ws)))) → w ≤ weightLimit) ⌝ }
+    ensures { λ r. ⌜ r ≡ rowSum (rowsOf (listIn 0 m (now (cs .entry)) (now (ws .entry)))) i j ⌝ }
 {
-    let m = s.rows;
     let mut sum: u64 = 0;
     let mut k: usize = 0;
     while k < m {
-        sum += parting_weight(s.clusters[k], s.weights[k], i, j);
+        sum += parting_weight(cs[k], ws[k], i, j);
         k += 1;
     }
     sum
@@ -43,9 +42,12 @@ fn put_sums(n: usize, s: Splits, out: &mut [u64])
     requires { ⌜ (2 ≤ n) × (n ≤ 64) × WellFormed weightLimit n s × (s .taxa ≡ n) × (length (now out) ≡ n * n) ⌝ }
     ensures { λ _. ⌜ now (out .exit) ≡ pathSums n (treeOf n (rowsOf s)) ⌝ }
 {
+    let m = s.rows;
+    let cs = s.clusters;
+    let ws = s.weights;
     let mut e: usize = 0;
     while e < n * n {
-        out[e] = row_sum(s, e / n, e % n);
+        out[e] = row_sum(m, &cs, &ws, e / n, e % n);
         e += 1;
     }
 }

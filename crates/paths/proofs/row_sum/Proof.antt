@@ -4,7 +4,8 @@ use native.Mathlib.Omega.{arith}
 use mathlib.Core.Path.{_≡_, ap}
 use lib.ListN.{drop}
 use borrow.Author.Needs.{needs}
-use Rattle.statement.specs.Rows.{rowsOf}
+use Rattle.statement.specs.declared.Splits.{Splits}
+use Rattle.statement.specs.Rows.{listIn, rowsOf}
 use Rattle.splits_list.proofs.Laws.{Roomy, rows-length}
 use Rattle.paths.specs.RowSum.{sumOver, parting, rowSum}
 use Rattle.paths.proofs.Sums.{sum-small}
@@ -13,13 +14,18 @@ use Rattle.paths.proofs.row_sum.Statement.{statement}
 use Rattle.paths.proofs.row_sum.Tie as tie
 
 abbrev Inv-loop : tie.InvT-loop
-Inv-loop i j s m sum₀ k₀ sum k = (k ≤ m) × (sum + sumOver (parting i j) (drop k (rowsOf s)) ≡ rowSum (rowsOf s) i j)
+Inv-loop m cs ws i j sum₀ k₀ sum k =
+    let rows = rowsOf (listIn 0 m cs ws) in (k ≤ m) × (sum + sumOver (parting i j) (drop k rows) ≡ rowSum rows i j)
 
 abbrev μ-loop : tie.MeasureT-loop
-μ-loop i j s m sum₀ k₀ sum k = m - k
+μ-loop m cs ws i j sum₀ k₀ sum k = m - k
 
-room : (c : tie.Start Inv-loop μ-loop) → Roomy (c .args .t1)
-room c = record { clusters = search needs; weights = search needs; rows = c .pre .0 .2 }
+-- the list of the rows
+abbrev list : tie.Start Inv-loop μ-loop → Splits
+list c = listIn 0 (c .args .m) (c .args .cs .now) (c .args .ws .now)
+
+room : (c : tie.Start Inv-loop μ-loop) → Roomy (list c)
+room c = record { clusters = c .pre .0 .3; weights = c .pre .0 .4; rows = c .pre .0 .2 }
 
 loop-holds : tie.Need-loop-holds Inv-loop μ-loop
 loop-holds c = (omega arith, omega arith)
@@ -41,17 +47,17 @@ parting-weight-requires c κs = search needs
 
 -- with one more row summed
 one-more : (c : tie.After-parting-weight Inv-loop μ-loop) → let l = c .before .before .before .before in let a = l .before .args in
-    l .loop .sum + c .parting-weight .result + sumOver (parting (a .i) (a .j)) (drop (l .loop .k + 1) (rowsOf (a .t1))) ≡ rowSum (rowsOf (a .t1)) (a .i) (a .j)
+    l .loop .sum + c .parting-weight .result + sumOver (parting (a .i) (a .j)) (drop (l .loop .k + 1) (rowsOf (list (l .before)))) ≡ rowSum (rowsOf (list (l .before))) (a .i) (a .j)
 one-more c =
     let l = c .before .before .before .before in
     let a = l .before .args in
-    omega (arith, next-row (parting (a .i) (a .j)) (a .t1) (room (l .before)) (l .loop .k) (omega arith), c .parting-weight .ensures)
+    omega (arith, next-row (parting (a .i) (a .j)) (list (l .before)) (room (l .before)) (l .loop .k) (omega arith), c .parting-weight .ensures)
 
 add-sum : tie.Need-add-sum Inv-loop μ-loop
 add-sum c =
     let s = c .before .before .before .before .before in
-    let few = rows-length (s .args .t1) (room s) in
-    omega (arith, one-more c, sum-small (rowsOf (s .args .t1)) (s .args .i) (s .args .j) (omega (arith, room s .rows)) (s .pre .1))
+    let few = rows-length (list s) (room s) in
+    omega (arith, one-more c, sum-small (rowsOf (list s)) (s .args .i) (s .args .j) (omega (arith, room s .rows)) (s .pre .1))
 
 add-k : tie.Need-add-k Inv-loop μ-loop
 add-k c = search needs
@@ -66,12 +72,12 @@ returns : tie.Need-returns Inv-loop μ-loop
 returns c =
     let l = c .before in
     let a = l .before .args in
-    let end : l .loop .k ≡ a .t1 .rows = omega arith in
+    let end : l .loop .k ≡ a .m = omega arith in
     omega (
       arith,
       l .loop .inv .1,
-      no-row (parting (a .i) (a .j)) (a .t1) (room (l .before)),
-      ap (λ (k : ℕ). sumOver (parting (a .i) (a .j)) (drop k (rowsOf (a .t1)))) end,
+      no-row (parting (a .i) (a .j)) (list (l .before)) (room (l .before)),
+      ap (λ (k : ℕ). sumOver (parting (a .i) (a .j)) (drop k (rowsOf (list (l .before))))) end,
     )
 
 pub row-sum-spec : {M : Type 1} → statement M
