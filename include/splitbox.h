@@ -92,8 +92,10 @@ uint64_t splitbox_run_table(size_t n, const uint8_t *bytes, size_t bytes_length,
                             uint64_t clusters[SPLITBOX_ROWS], uint32_t weights[SPLITBOX_ROWS], uint64_t *trials);
 
 /* GROWTH of the given list by as many taxa as the allowance of trials covers: DONE when the list has all n taxa, SHORT when the
- * next taxon costs more than remains. Adding one to a list with s rows costs 2s+1 trials. Writes the list and the trials spent
- * in this call. Where no taxon is added the list is left as it was given, spare rows too; an allowance of 0 only checks.
+ * next taxon costs more than remains. Adding one to a list over k taxa costs 2s+1 trials: on a table s is its number of rows, on
+ * a matrix the number of trivial splits of k taxa (1: none, 2: one, else k), listed or not, and of its rows that are not trivial.
+ * Writes the list and the trials spent in this call. Where no taxon is added the list is left as it was given, spare rows too; an
+ * allowance of 0 only checks.
  * Refuses what the whole run does, then 8. */
 uint64_t splitbox_grow_matrix(size_t n, const uint32_t *entries, size_t entries_length, uint64_t allowance, size_t *taxa,
                               size_t *rows, uint64_t clusters[SPLITBOX_ROWS], uint32_t weights[SPLITBOX_ROWS],

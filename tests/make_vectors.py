@@ -1,9 +1,9 @@
 #!/usr/bin/env python3
-"""Writes crates/vectors/data and crates/vectors/stdout: records, sound and damaged, and what document 01 says of each; files of records, walked (w);
-typed numbers (t); and records in plain words (s).
+"""Writes crates/vectors/data and crates/vectors/stdout: records, sound and damaged, and what documents 01 and 02 say of each; files of records, walked
+(w); typed numbers (t); and records in plain words (s).
 
-Everything here is worked out from document 01 and shares nothing with the crates: lists of up to 7 taxa by brute force over every split and every four,
-the two large ones in closed form (taxa that hang one after the other on a line have all 2n-3 splits)."""
+Everything here is worked out from the documents and shares nothing with the crates: lists of up to 7 taxa by brute force over every split and every four,
+the large ones in closed form (taxa that hang one after the other on a line have all 2n-3 splits; zeros have none)."""
 import itertools, math, os, random, struct
 
 HERE = os.path.dirname(os.path.abspath(__file__))
@@ -19,15 +19,32 @@ def record(kind, n, body, mark=b'Sp', length=None, pad=b'\0', off=0):
 def matrix(rows):
     return b''.join(struct.pack('<I', x) for r in rows for x in r)
 
-def supported_matrix(d, k):
+def groups(c, k):
+    return [i for i in range(k) if not c >> i & 1], [i for i in range(k) if c >> i & 1]
+
+def with_repeats(group):  # the rule before document 02 §7
+    return [(a, b) for a in group for b in group]
+
+def different(group):  # document 02 §7: a group of two or more gives only pairs of different taxa
+    return list(itertools.combinations(group, 2)) or [(group[0], group[0])]
+
+def supported_matrix(d, k, pairs=different):
     out = []
     for c in range(2, 2 ** k, 2):
-        v = [i for i in range(k) if c >> i & 1]
-        u = [i for i in range(k) if not c >> i & 1]
-        w = min(min(d[a][x] + d[b][y], d[a][y] + d[b][x]) - d[a][b] - d[x][y] for a in u for b in u for x in v for y in v)
+        u, v = groups(c, k)
+        w = min(min(d[a][x] + d[b][y], d[a][y] + d[b][x]) - d[a][b] - d[x][y] for a, b in pairs(u) for x, y in pairs(v))
         if w > 0:
             out.append((c, w))
     return out
+
+def trivial(c, k):
+    return min(len(g) for g in groups(c, k)) == 1
+
+def extended(rows, k):  # document 02 §7: every trivial split of k taxa, listed or not, and each listed one that is not trivial
+    return sum(trivial(c, k) for c in range(2, 2 ** k, 2)) + sum(not trivial(c, k) for c, w in rows)
+
+def keeps_triangle(d):
+    return all(d[i][j] <= d[i][l] + d[l][j] for i, j, l in itertools.product(range(len(d)), repeat=3))
 
 def supported_table(t, k):
     def stands(a, b, x, y):
@@ -37,8 +54,7 @@ def supported_table(t, k):
         return byte and pairs == {frozenset((s[0], s[byte])), frozenset(set(s) - {s[0], s[byte]})}
     out = []
     for c in range(2, 2 ** k, 2):
-        v = [i for i in range(k) if c >> i & 1]
-        u = [i for i in range(k) if not c >> i & 1]
+        u, v = groups(c, k)
         if all(stands(a, b, x, y) for a, b in itertools.combinations(u, 2) for x, y in itertools.combinations(v, 2)):
             out.append((c, 1))
     return out
@@ -46,8 +62,12 @@ def supported_table(t, k):
 def listing(n, rows, trials):
     return 'taxa %d trials %d\n' % (n, trials) + ''.join('%d %d\n' % r for r in rows)
 
-def run(n, supported):
-    return listing(n, supported(n), sum(2 * len(supported(k)) + 1 for k in range(1, n)))
+def run_table(t, n):
+    return listing(n, supported_table(t, n), sum(2 * len(supported_table(t, k)) + 1 for k in range(1, n)))
+
+def run_matrix(d):
+    n = len(d)
+    return listing(n, supported_matrix(d, n), sum(2 * extended(supported_matrix(d, k), k) + 1 for k in range(1, n)))
 
 def line(n, single, inner):  # taxa one after the other: every taxon by itself, and every cut of the line
     rows = {1 << i: single(i) for i in range(1, n)}
@@ -66,22 +86,22 @@ def add(what, bytes_, says):
     cases.append((what, bytes_, says))
 
 a = record(1, 4, matrix(A))
-add('matrix A', a, run(4, lambda k: supported_matrix(A, k)))
-add('what follows the first record is ignored', a + b'more', run(4, lambda k: supported_matrix(A, k)))
+add('matrix A', a, run_matrix(A))
+add('what follows the first record is ignored', a + b'more', run_matrix(A))
 add('two taxa at distance 0', record(1, 2, matrix([[0, 0], [0, 0]])), listing(2, [], 1))
 add('two taxa at the largest distance', record(1, 2, matrix([[0, 1000000], [1000000, 0]])), listing(2, [(2, 2000000)], 1))
 comb = [[0 if i == j else abs(i - j) + 2 for j in range(64)] for i in range(64)]
 add('64 taxa on a line', record(1, 64, matrix(comb)), line(64, lambda i: 4 if i in (0, 63) else 2, 2))
 add('a table of 3 taxa: no byte', record(2, 3, b''), listing(3, [(2, 1), (4, 1), (6, 1)], 4))
-add('a table of 4 taxa: one byte and a pad', record(2, 4, b'\2'), run(4, lambda k: supported_table(b'\2', k)))
+add('a table of 4 taxa: one byte and a pad', record(2, 4, b'\2'), run_table(b'\2', 4))
 rng = random.Random(1)
 for n in (5, 6, 7):
     t = bytes(rng.choice((0, 1, 1, 1, 2, 3)) for _ in range(math.comb(n, 4)))
-    add('a table of %d taxa' % n, record(2, n, t), run(n, lambda k, t=t: supported_table(t, k)))
+    add('a table of %d taxa' % n, record(2, n, t), run_table(t, n))
     d = [[0] * n for _ in range(n)]
     for i, j in itertools.combinations(range(n), 2):
         d[i][j] = d[j][i] = rng.randrange(40, 60)
-    add('a matrix of %d taxa' % n, record(1, n, matrix(d)), run(n, lambda k, d=d: supported_matrix(d, k)))
+    add('a matrix of %d taxa' % n, record(1, n, matrix(d)), run_matrix(d))
 add('a table of 36 taxa on a line, the most for a program', record(2, 36, b'\1' * math.comb(36, 4)), line(36, lambda i: 1, 1))
 add('a table of 37 taxa is cut', record(2, 37, b'\1' * math.comb(37, 4)), 'refused 16 at 0\n')
 add('n = 1', record(1, 1, matrix([[0]])), 'refused 1 at 0\n')
@@ -102,6 +122,38 @@ add('17: a tree record, which is not taken', record(3, 2, tree), 'refused 17 at 
 add('18 before 17: a tree record with a wrong sum', record(3, 2, tree, off=1), 'refused 18 at 0\n')
 add('18: wrong sum', record(1, 4, matrix(A), off=1), 'refused 18 at 0\n')
 add('18: pad not zero', record(2, 4, b'\2', pad=b'\1'), 'refused 18 at 0\n')
+
+# matrices that break the triangle rule, where the rule before document 02 §7 lists less. Both are of the documents
+def symmetric(n, below):  # from d(1,0), d(2,0), d(2,1), ..
+    d = [[0] * n for _ in range(n)]
+    for (i, j), x in zip(((i, j) for i in range(n) for j in range(i)), below):
+        d[i][j] = d[j][i] = x
+    return d
+
+three, four = symmetric(3, [1, 1, 3]), symmetric(4, [1, 1, 10, 1, 10, 3])
+assert supported_matrix(three, 3) == [(2, 3), (4, 3)] and (12, 7) in supported_matrix(four, 4)
+assert 12 not in dict(supported_matrix(four, 4, with_repeats))
+add('document 02 §7: three taxa, weights 3 and 3', record(1, 3, matrix(three)), run_matrix(three))
+add('document 02 §7: four taxa, cluster 12 at weight 7', record(1, 4, matrix(four)), run_matrix(four))
+add('all zeros at 64 taxa', record(1, 64, bytes(4 * 64 * 64)), listing(64, [], 4091))
+
+# and tree-made ones in which markers drop out: some distances fall
+def dropped(n):
+    while True:
+        at = [rng.randrange(200) for _ in range(n)]
+        d = symmetric(n, [abs(at[i] - at[j]) + 40 for i in range(n) for j in range(i)])
+        for _ in range(2):
+            i, j = rng.sample(range(n), 2)
+            d[i][j] = d[j][i] = d[i][j] // 3
+        rows = supported_matrix(d, n)
+        larger = [c for c, w in rows if not trivial(c, n)]
+        unbound = any(w > dict(rows).get(1 << i, 0) for c, w in rows if not trivial(c, n) for i in range(1, n) if c >> i & 1)
+        if not keeps_triangle(d) and unbound and set(larger) - set(dict(supported_matrix(d, n, with_repeats))):
+            return d
+
+for n in (4, 5, 6, 7):
+    d = dropped(n)
+    add('a matrix of %d taxa that breaks the triangle rule' % n, record(1, n, matrix(d)), run_matrix(d))
 
 # files of records, walked: sound, odd body, damaged, and one behind the damaged one, which is not reached; one record; no byte
 parts = [a, record(2, 4, b'\2'), record(1, 4, matrix(A), off=7), a]

@@ -59,18 +59,20 @@ void call_start(void)
 }
 
 /* The trials of a whole run whose answer is known. The answer for the first k taxa is its different non-empty restrictions. */
-static uint64_t known_trials(const splitbox_list *known)
+static uint64_t known_trials(const source *s, const splitbox_list *known)
 {
     uint64_t trials = 0;
     for (size_t k = 1; k < known->taxa; k++) {
         uint64_t first = reference_first(k);
-        trials += 1;
+        splitbox_list restricted = {.taxa = k};
         for (size_t i = 0; i < known->rows; i++) {
             bool fresh = (known->clusters[i] & first) != 0;
             for (size_t j = 0; j < i; j++)
                 fresh = fresh && (known->clusters[i] & first) != (known->clusters[j] & first);
-            trials += fresh ? 2 : 0;
+            if (fresh)
+                restricted.clusters[restricted.rows++] = known->clusters[i] & first;
         }
+        trials += reference_next_cost(s, &restricted);
     }
     return trials;
 }
@@ -86,7 +88,7 @@ void call_run(const source *s, const splitbox_list *known)
     uint64_t trials, wanted = SPLITBOX_DONE;
     if (known) {
         list = *known;
-        trials = known_trials(known);
+        trials = known_trials(s, known);
     } else
         wanted = reference_run(s, &list, &trials);
     if (!refused(wanted))

@@ -29,6 +29,7 @@ bool reference_n_refused(size_t n);
 uint64_t reference_check_source(const source *s);
 bool reference_well_formed(size_t n, uint32_t heaviest, const splitbox_list *list);
 uint64_t reference_run(const source *s, splitbox_list *list, uint64_t *trials);
+uint64_t reference_next_cost(const source *s, const splitbox_list *list);
 uint64_t reference_grow(const source *s, uint64_t allowance, splitbox_list *list, uint64_t *trials);
 
 uint64_t reference_write_tree(size_t n, const splitbox_list *list, uint8_t *out, size_t out_length);

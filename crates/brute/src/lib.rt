@@ -1,9 +1,9 @@
-// Brute force from the definitions, for tests: every split of up to 7 taxa and every four of it, sharing no code with growth; and the small
-// pseudo-random matrices and tables that it is tried on. Scores are kept above zero by adding 10,000,000,000 to each.
+// Brute force from the definitions, for tests: every split of up to 7 taxa and every four of it, sharing no code with growth; the full answer, and one
+// taxon more of a list from elsewhere (document 02 §7). Scores are kept above zero by adding 10,000,000,000 to each.
 use statement::Splits;
 ghost use mathlib.Core.Path.{_≡_};
 ghost use mathlib.Core.Bool.{true};
-ghost use Prim.Native.Nat.{_<_, _≤_};
+ghost use Prim.Native.Nat.{_+_, _<_, _≤_};
 
 fn wide(x: u32) -> u64
     ensures { λ r. ⌜ r < 4294967296 ⌝ }
@@ -41,12 +41,45 @@ fn score_above(n: usize, d: &[u32; 49], w: usize, x: usize, y: usize, z: usize) 
     other + 10000000000 - along
 }
 
-// The lesser of `least` and the score of uu'|vv', where u and u' are outside the cluster c and v and v' are in it.
+// Whether u has company: another of the n taxa is in its group, in the split c.
+fn company(n: usize, c: u64, u: usize) -> bool
+    requires { ⌜ (n ≤ 7) × (u < 7) ⌝ }
+{
+    let mut found = false;
+    let mut i: usize = 0;
+    while i < n {
+        found = found || i != u && inside(c, i) == inside(c, u);
+        i += 1;
+    }
+    found
+}
+
+// Whether the split c of n taxa is trivial: some taxon has no company.
+fn trivial(n: usize, c: u64) -> bool
+    requires { ⌜ n ≤ 7 ⌝ }
+{
+    let mut found = false;
+    let mut i: usize = 0;
+    while i < n {
+        found = found || !company(n, c, i);
+        i += 1;
+    }
+    found
+}
+
+// Whether the taxon t is one of four; any four will do where there is no taxon 7.
+fn holds(t: usize, u: usize, u2: usize, v: usize, v2: usize) -> bool {
+    t == 7 || t == u || t == u2 || t == v || t == v2
+}
+
+// The lesser of `least` and the score of uu'|vv', where u and u' are outside the cluster c and v and v' are in it; a taxon is taken twice only where
+// it has no company, and only fours that hold t count.
 fn lowered(
     least: u64,
     n: usize,
     d: &[u32; 49],
     c: u64,
+    t: usize,
     u: usize,
     u2: usize,
     v: usize,
@@ -57,7 +90,16 @@ fn lowered(
     if u >= n || u2 >= n || v >= n || v2 >= n {
         return least;
     }
+    if !holds(t, u, u2, v, v2) {
+        return least;
+    }
     if inside(c, u) || inside(c, u2) || !inside(c, v) || !inside(c, v2) {
+        return least;
+    }
+    if u == u2 && company(n, c, u) {
+        return least;
+    }
+    if v == v2 && company(n, c, v) {
         return least;
     }
     let s = score_above(n, d, u, u2, v, v2);
@@ -67,14 +109,14 @@ fn lowered(
     least
 }
 
-// The least score of the split c over all its fours, and 10,000,000,000.
-fn weight_above(n: usize, d: &[u32; 49], c: u64) -> u64
+// The least of `start` and the scores of the split c, over its fours that hold t, and 10,000,000,000.
+fn weight_above(n: usize, d: &[u32; 49], c: u64, t: usize, start: u64) -> u64
     requires { ⌜ n ≤ 7 ⌝ }
 {
-    let mut least: u64 = 20000000000;
+    let mut least = start;
     let mut q: usize = 0;
     while q < 2401 {
-        least = lowered(least, n, d, c, q % 7, q / 7 % 7, q / 49 % 7, q / 343);
+        least = lowered(least, n, d, c, t, q % 7, q / 7 % 7, q / 49 % 7, q / 343);
         q += 1;
     }
     least
@@ -160,16 +202,30 @@ fn table_supports(n: usize, bytes: &[u8; 35], c: u64) -> bool {
     f.all
 }
 
-// The weight of the split c, 0 where it is not supported: by the matrix d, or else by the table.
+// A least score as a weight: 0 where it is zero or below.
+fn weight_from(least: u64) -> u64 {
+    if least <= 10000000000 {
+        return 0;
+    }
+    least - 10000000000
+}
+
+// The weight of the split c over all its fours, 0 where it is not supported.
+fn matrix_weight(n: usize, d: &[u32; 49], c: u64) -> u64
+    requires { ⌜ n ≤ 7 ⌝ }
+{
+    weight_from(weight_above(n, d, c, 7, 20000000000))
+}
+
+// The weight of the split c, 0 where it is not supported or goes beyond n taxa: by the matrix d, or else by the table.
 fn weight_of(by_matrix: bool, n: usize, d: &[u32; 49], bytes: &[u8; 35], c: u64) -> u64
     requires { ⌜ n ≤ 7 ⌝ }
 {
+    if c >> n != 0 {
+        return 0;
+    }
     if by_matrix {
-        let w = weight_above(n, d, c);
-        if w <= 10000000000 {
-            return 0;
-        }
-        return w - 10000000000;
+        return matrix_weight(n, d, c);
     }
     if table_supports(n, bytes, c) {
         return 1;
@@ -177,22 +233,8 @@ fn weight_of(by_matrix: bool, n: usize, d: &[u32; 49], bytes: &[u8; 35], c: u64)
     0
 }
 
-// The row after the split c, which has to be the next row where it is supported.
-fn row_after(
-    by_matrix: bool,
-    n: usize,
-    d: &[u32; 49],
-    bytes: &[u8; 35],
-    list: Splits,
-    row: usize,
-    c: u64,
-) -> usize
-    requires { ⌜ n ≤ 7 ⌝ }
-{
-    if c >> n != 0 {
-        return row;
-    }
-    let w = weight_of(by_matrix, n, d, bytes, c);
+// The row after the split c, which has to be the next row where its weight is above zero.
+fn row_after(list: Splits, row: usize, c: u64, w: u64) -> usize {
     if w == 0 {
         return row;
     }
@@ -207,13 +249,101 @@ pub fn is_answer(by_matrix: bool, n: usize, d: &[u32; 49], bytes: &[u8; 35], lis
     let mut row: usize = 0;
     let mut c: u64 = 2;
     while c < 128 {
-        row = row_after(by_matrix, n, d, bytes, list, row, c);
+        row = row_after(list, row, c, weight_of(by_matrix, n, d, bytes, c));
         c += 2;
     }
     if list.taxa != n {
         return false;
     }
     row == list.rows
+}
+
+// The weight that a list gives the cluster c; 0 where it is not listed.
+fn weight_in(list: Splits, c: u64) -> u64
+    ensures { λ r. ⌜ r < 4294967296 ⌝ }
+{
+    let mut i: usize = 0;
+    while i < 125 {
+        if i < list.rows && list.clusters[i] == c {
+            return wide(list.weights[i]);
+        }
+        i += 1;
+    }
+    0
+}
+
+// The weight of the split c of n taxa by the growth rule, the list covering all but the last; 0 where it is not listed. The newcomer by itself, and what
+// extends a trivial split, listed or not, are weighed over all fours; a listed split that is not trivial by its old weight and the newcomer's fours.
+fn grown_weight(n: usize, d: &[u32; 49], old: Splits, c: u64) -> u64
+    requires { ⌜ (2 ≤ n) × (n ≤ 7) ⌝ }
+{
+    if c >> n != 0 {
+        return 0;
+    }
+    let parent = c << (65 - n) >> (65 - n);
+    if parent == 0 || trivial(n - 1, parent) {
+        return matrix_weight(n, d, c);
+    }
+    let w = weight_in(old, parent);
+    if w == 0 {
+        return 0;
+    }
+    weight_from(weight_above(n, d, c, n - 1, w + 10000000000))
+}
+
+// Whether a list is what the growth rule makes of one that covers all taxa but the last.
+pub fn is_grown(n: usize, d: &[u32; 49], old: Splits, list: Splits) -> bool
+    requires { ⌜ (2 ≤ n) × (n ≤ 7) ⌝ }
+    ensures { λ r. ⌜ (r ≡ true → list .taxa ≡ n) ⌝ }
+{
+    let mut row: usize = 0;
+    let mut c: u64 = 2;
+    while c < 128 {
+        row = row_after(list, row, c, grown_weight(n, d, old, c));
+        c += 2;
+    }
+    if list.taxa != n {
+        return false;
+    }
+    row == list.rows
+}
+
+fn one_more(count: u64, counts: bool) -> u64
+    requires { ⌜ count < 1000 ⌝ }
+    ensures { λ r. ⌜ r ≤ count + 1 ⌝ }
+{
+    if counts {
+        return count + 1;
+    }
+    count
+}
+
+// How many trivial splits k taxa have.
+fn trivials(k: usize) -> u64
+    requires { ⌜ k ≤ 7 ⌝ }
+    ensures { λ r. ⌜ r ≤ 7 ⌝ }
+{
+    if k < 2 {
+        return 0;
+    }
+    if k == 2 {
+        return 1;
+    }
+    k as u64
+}
+
+// What the next taxon costs on a matrix: both extensions of every trivial split of k taxa, and of each listed one that is not trivial, plus one.
+pub fn next_cost(k: usize, old: Splits) -> u64
+    requires { ⌜ k ≤ 7 ⌝ }
+    ensures { λ r. ⌜ (1 ≤ r) × (r ≤ 265) ⌝ }
+{
+    let mut splits = trivials(k);
+    let mut i: usize = 0;
+    while i < 125 {
+        splits = one_more(splits, i < old.rows && !trivial(k, old.clusters[i]));
+        i += 1;
+    }
+    2 * splits + 1
 }
 
 // Whether two lists are the same: k, the row count and the rows.

@@ -16,7 +16,7 @@ use Rattle.statement.specs.declared.Outcome.the-variants.{Done, Short, Refused}
 use Rattle.statement.specs.Matrix.{distance, weightLimit}
 use Rattle.statement.specs.Table.{tableWeight}
 use Rattle.statement.specs.Rows.{rowsOf, listOf}
-use Rattle.statement.specs.Growing.{matrixTrial, tableTrial, larger, cost, grown, wholeRun}
+use Rattle.statement.specs.Growing.{Manner, byMatrix, byTable, larger, cost, grown, wholeRun}
 use Rattle.statement.specs.Tree.{treeOf, rowsOfTree, pathSums}
 use Rattle.statement.specs.Bytes.{treeBody, treeIn, treeLength}
 use Rattle.statement.specs.Refusals.{Check, outcomeOf, listOff, matrixChecks, tableChecks, treeChecks, outputChecks}
@@ -64,20 +64,20 @@ growthOutcome g = g .outcome
 abbrev readingOutcome : Reading → Outcome
 readingOutcome g = g .outcome
 
-run-not : (trial : ℕ → ℕ → ℕ → ℕ → ℕ) (most n : ℕ) → NotRefused (wholeRun trial most n .outcome)
+run-not : (g : Manner) (n : ℕ) → NotRefused (wholeRun g n .outcome)
 unfolding wholeRun
-run-not trial most n = done-not
+run-not g n = done-not
 
 -- growth that is not refused is done or short
-grown-not : (trial : ℕ → ℕ → ℕ → ℕ → ℕ) (most f left spent : ℕ) (s : Splits) → NotRefused (grown trial most f left spent s .outcome)
+grown-not : (g : Manner) (f left spent : ℕ) (s : Splits) → NotRefused (grown g f left spent s .outcome)
 unfolding grown
-grown-not trial most zero left spent s = done-not
-grown-not trial most (suc f) left spent s =
-    go (leb (cost (s .rows)) left)
-    (grown-not trial most f (left - cost (s .rows)) (spent + cost (s .rows)) (larger trial most s))
+grown-not g zero left spent s = done-not
+grown-not g (suc f) left spent s =
+    go (leb (cost g s) left)
+    (grown-not g f (left - cost g s) (spent + cost g s) (larger g s))
   where
-    go : (b : Bool) → NotRefused (grown trial most f (left - cost (s .rows)) (spent + cost (s .rows)) (larger trial most s) .outcome)
-        → NotRefused (cond b (grown trial most f (left - cost (s .rows)) (spent + cost (s .rows)) (larger trial most s)) (record { outcome = Short; list = s; trials = spent }) .outcome)
+    go : (b : Bool) → NotRefused (grown g f (left - cost g s) (spent + cost g s) (larger g s) .outcome)
+        → NotRefused (cond b (grown g f (left - cost g s) (spent + cost g s) (larger g s)) (record { outcome = Short; list = s; trials = spent }) .outcome)
     go true h = h
     go false h = short-not
 
@@ -85,15 +85,15 @@ grown-not trial most (suc f) left spent s =
 pub run-matrix : (n : ℕ) (entries : List ℕ) → ExactlyWhen (runMatrix n entries .outcome) (matrixChecks n entries) × RefusedIs growthOutcome (runMatrix n entries) refusedRun
 unfolding runMatrix
 run-matrix n entries =
-    let given = wholeRun (matrixTrial (distance n entries)) weightLimit n in
-    let not = run-not (matrixTrial (distance n entries)) weightLimit n in
+    let given = wholeRun (byMatrix (distance n entries)) n in
+    let not = run-not (byMatrix (distance n entries)) n in
     (exactly growthOutcome refusedRun given (λ o. refl) not (matrixChecks n entries), listed growthOutcome refusedRun given (λ o. refl) not (outcomeOf (matrixChecks n entries)))
 
 pub run-table : (n : ℕ) (bytes : List ℕ) → ExactlyWhen (runTable n bytes .outcome) (tableChecks n bytes) × RefusedIs growthOutcome (runTable n bytes) refusedRun
 unfolding runTable
 run-table n bytes =
-    let given = wholeRun (tableTrial bytes) tableWeight n in
-    let not = run-not (tableTrial bytes) tableWeight n in
+    let given = wholeRun (byTable bytes) n in
+    let not = run-not (byTable bytes) n in
     (exactly growthOutcome refusedRun given (λ o. refl) not (tableChecks n bytes), listed growthOutcome refusedRun given (λ o. refl) not (outcomeOf (tableChecks n bytes)))
 
 pub grow-matrix : (n : ℕ) (entries : List ℕ) (s : Splits) (allowance : ℕ) → let checks = matrixChecks n entries ++ (listOff weightLimit n s ∷ []) in
@@ -101,8 +101,8 @@ pub grow-matrix : (n : ℕ) (entries : List ℕ) (s : Splits) (allowance : ℕ) 
 unfolding growMatrix
 grow-matrix n entries s allowance =
     let checks = matrixChecks n entries ++ (listOff weightLimit n s ∷ []) in
-    let given = grown (matrixTrial (distance n entries)) weightLimit (n - s .taxa) allowance 0 s in
-    let not = grown-not (matrixTrial (distance n entries)) weightLimit (n - s .taxa) allowance 0 s in
+    let given = grown (byMatrix (distance n entries)) (n - s .taxa) allowance 0 s in
+    let not = grown-not (byMatrix (distance n entries)) (n - s .taxa) allowance 0 s in
     (exactly growthOutcome (λ o. refusedGrowth o s) given (λ o. refl) not checks, listed growthOutcome (λ o. refusedGrowth o s) given (λ o. refl) not (outcomeOf checks))
 
 pub grow-table : (n : ℕ) (bytes : List ℕ) (s : Splits) (allowance : ℕ) → let checks = tableChecks n bytes ++ (listOff tableWeight n s ∷ []) in
@@ -110,8 +110,8 @@ pub grow-table : (n : ℕ) (bytes : List ℕ) (s : Splits) (allowance : ℕ) →
 unfolding growTable
 grow-table n bytes s allowance =
     let checks = tableChecks n bytes ++ (listOff tableWeight n s ∷ []) in
-    let given = grown (tableTrial bytes) tableWeight (n - s .taxa) allowance 0 s in
-    let not = grown-not (tableTrial bytes) tableWeight (n - s .taxa) allowance 0 s in
+    let given = grown (byTable bytes) (n - s .taxa) allowance 0 s in
+    let not = grown-not (byTable bytes) (n - s .taxa) allowance 0 s in
     (exactly growthOutcome (λ o. refusedGrowth o s) given (λ o. refl) not checks, listed growthOutcome (λ o. refusedGrowth o s) given (λ o. refl) not (outcomeOf checks))
 
 pub read-tree : (n : ℕ) (body : List ℕ) → ExactlyWhen (readTree n body .outcome) (treeChecks n body) × RefusedIs readingOutcome (readTree n body) refusedReading

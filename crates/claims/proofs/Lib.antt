@@ -5,3 +5,4 @@ pub mod Growing
 pub mod Trees
 pub mod Records
 pub mod Spare
+pub mod Pairs

@@ -12,9 +12,9 @@ use Rattle.statement.specs.declared.Growth.{Growth}
 use Rattle.statement.specs.declared.Outcome.{Outcome}
 use Rattle.statement.specs.declared.Outcome.the-variants.{Done, Short, Refused}
 use Rattle.statement.specs.Matrix.{distance, weightLimit}
-use Rattle.statement.specs.Table.{choose, tableWeight}
+use Rattle.statement.specs.Table.{choose}
 use Rattle.statement.specs.Rows.{Row, rowsOf, listOf, Same, WellFormed, wellFormed}
-use Rattle.statement.specs.Growing.{matrixTrial, tableTrial, enlarged, larger, cost, grown}
+use Rattle.statement.specs.Growing.{Manner, byMatrix, byTable, grownRows, larger, costOf, cost, grown}
 use Rattle.statement.specs.Tree.{treeOf, pathSums}
 use Rattle.statement.specs.Bytes.{treeBody, treeLength}
 use Rattle.statement.specs.Refusals.{Check, outcomeOf, taxaOff, lengthOff, byteOff, listOff, single, outputOff, outputChecks, entryChecks}
@@ -66,54 +66,57 @@ module _ (s t : Splits) (rs : InRoom s) (rt : InRoom t) (e : Same s t) where
 reply-by : (g h : Growth) → g ≡ h → SameReply g h
 reply-by g h e = subst (λ (x : Growth). SameReply g x) e (record { outcome = refl; list = record { taxa = refl; count = refl; rows = refl }; trials = refl })
 
-module _ (trial : ℕ → ℕ → ℕ → ℕ → ℕ) (most : ℕ) (s t : Splits) (e : Same s t) where
-  same-larger : larger trial most s ≡ larger trial most t
-  same-larger = ap₂ (λ (k : ℕ) (rows : List Row). listOf (suc k) (enlarged trial most k rows)) (e .taxa) (e .rows)
+module _ (g : Manner) (s t : Splits) (e : Same s t) where
+  same-larger : larger g s ≡ larger g t
+  same-larger = ap₂ (λ (k : ℕ) (rows : List Row). listOf (suc k) (grownRows g k rows)) (e .taxa) (e .rows)
 
-  same-grown : (f left spent : ℕ) → SameReply (grown trial most f left spent s) (grown trial most f left spent t)
+  same-cost : cost g s ≡ cost g t
+  same-cost = ap₂ (λ (k : ℕ) (rows : List Row). costOf g k rows) (e .taxa) (e .rows)
+
+  same-grown : (f left spent : ℕ) → SameReply (grown g f left spent s) (grown g f left spent t)
   unfolding grown
   same-grown zero left spent = record { outcome = refl; list = e; trials = refl }
   same-grown (suc f) left spent =
-      subst (λ (m : ℕ). SameReply (turn (s .rows) s (leb (cost (s .rows)) left)) (turn m t (leb (cost m) left))) (e .count) (go (leb (cost (s .rows)) left))
+      subst (λ (m : ℕ). SameReply (turn (cost g s) s (leb (cost g s) left)) (turn m t (leb m left))) same-cost (go (leb (cost g s) left))
     where
       turn : ℕ → Splits → Bool → Growth
-      turn m u b = cond b (grown trial most f (left - cost m) (spent + cost m) (larger trial most u)) (record { outcome = Short; list = u; trials = spent })
+      turn m u b = cond b (grown g f (left - m) (spent + m) (larger g u)) (record { outcome = Short; list = u; trials = spent })
 
-      go : (b : Bool) → SameReply (turn (s .rows) s b) (turn (s .rows) t b)
-      go true = reply-by _ _ (ap (grown trial most f (left - cost (s .rows)) (spent + cost (s .rows))) same-larger)
+      go : (b : Bool) → SameReply (turn (cost g s) s b) (turn (cost g s) t b)
+      go true = reply-by _ _ (ap (grown g f (left - cost g s) (spent + cost g s)) same-larger)
       go false = record { outcome = refl; list = e; trials = refl }
 
 -- growth on a source of n taxa whose own checks are these, behind those of n
-module _ (trial : ℕ → ℕ → ℕ → ℕ → ℕ) (most n : ℕ) (own : List Check) (allowance : ℕ) where
+module _ (g : Manner) (n : ℕ) (own : List Check) (allowance : ℕ) where
   abbrev said : Splits → Outcome
-  said s = outcomeOf ((taxaOff n ∷ own) ++ (listOff most n s ∷ []))
+  said s = outcomeOf ((taxaOff n ∷ own) ++ (listOff (g .most) n s ∷ []))
 
   growth : Splits → Growth
-  growth s = unlessRefused (said s) (refusedGrowth (said s) s) (grown trial most (n - s .taxa) allowance 0 s)
+  growth s = unlessRefused (said s) (refusedGrowth (said s) s) (grown g (n - s .taxa) allowance 0 s)
 
   growth-unseen : SpareUnseen growth
   unfolding growth
   growth-unseen s t rs rt e =
       subst (λ (o : Outcome). SameReply (growth s) (by o (n - t .taxa) t))
-      (same-checks s t rs rt e n (λ u. own ++ (listOff most n u ∷ [])) (λ few. ap (λ (b : Bool). own ++ (single 8 (not b) ∷ [])) (same-test s t rs rt e most n few)))
+      (same-checks s t rs rt e n (λ u. own ++ (listOff (g .most) n u ∷ [])) (λ few. ap (λ (b : Bool). own ++ (single 8 (not b) ∷ [])) (same-test s t rs rt e (g .most) n few)))
       (subst (λ (k : ℕ). SameReply (growth s) (by (said s) (n - k) t)) (e .taxa) (go (said s)))
     where
       by : Outcome → ℕ → Splits → Growth
-      by o f u = unlessRefused o (refusedGrowth o u) (grown trial most f allowance 0 u)
+      by o f u = unlessRefused o (refusedGrowth o u) (grown g f allowance 0 u)
 
       go : (o : Outcome) → SameReply (by o (n - s .taxa) s) (by o (n - s .taxa) t)
-      go Done = same-grown trial most s t e (n - s .taxa) allowance 0
-      go Short = same-grown trial most s t e (n - s .taxa) allowance 0
+      go Done = same-grown g s t e (n - s .taxa) allowance 0
+      go Short = same-grown g s t e (n - s .taxa) allowance 0
       go (Refused number place) = record { outcome = refl; list = e; trials = refl }
 
 pub matrix-spare : (n : ℕ) (entries : List ℕ) (allowance : ℕ) → SpareUnseen (λ s. growMatrix n entries s allowance)
 unfolding growMatrix growth
 matrix-spare n entries allowance =
-    growth-unseen (matrixTrial (distance n entries)) weightLimit n (lengthOff (eqb (length entries) (n * n)) ∷ entryChecks n entries) allowance
+    growth-unseen (byMatrix (distance n entries)) n (lengthOff (eqb (length entries) (n * n)) ∷ entryChecks n entries) allowance
 
 pub table-spare : (n : ℕ) (bytes : List ℕ) (allowance : ℕ) → SpareUnseen (λ s. growTable n bytes s allowance)
 unfolding growTable growth
-table-spare n bytes allowance = growth-unseen (tableTrial bytes) tableWeight n (lengthOff (eqb (length bytes) (choose n 4)) ∷ byteOff bytes ∷ []) allowance
+table-spare n bytes allowance = growth-unseen (byTable bytes) n (lengthOff (eqb (length bytes) (choose n 4)) ∷ byteOff bytes ∷ []) allowance
 
 -- THE TREE AND THE PATH SUMS
 module _ (n : ℕ) (out : List ℕ) where

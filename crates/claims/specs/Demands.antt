@@ -1,7 +1,7 @@
 -- THE THREE DEMANDS, as statements. What stands in them are the definitions of the crate `statement`, and nothing else has to be believed.
 use Prim.Native.Nat.{ℕ, suc, _+_, _*_, _-_, _^_, _≤_, _<_}
 use mathlib.Core.Path.{_≡_}
-use mathlib.Core.Logic.{_≢_, _⊎_, _↔_}
+use mathlib.Core.Logic.{_≢_, _↔_}
 use mathlib.Core.Bool.{Bool, true, not, Bool·beq}
 use mathlib.Core.List.{List}
 use lib.ListN.{length}
@@ -11,10 +11,11 @@ use Rattle.statement.specs.declared.Splits.{Splits}
 use Rattle.statement.specs.declared.Growth.{Growth}
 use Rattle.statement.specs.declared.Outcome.{Outcome}
 use Rattle.statement.specs.declared.Outcome.the-variants.{Done, Refused}
-use Rattle.statement.specs.Cluster.{In, Out, groupOf, Conflict}
+use Rattle.statement.specs.Cluster.{groupOf, Conflict}
 use Rattle.statement.specs.Matrix.{distance, score, weightLimit, MatrixWeight}
 use Rattle.statement.specs.Table.{stands, tableWeight}
 use Rattle.statement.specs.Rows.{Row, clusters, Listed, weightIn, Ascending, rowsOf, listOf, Same, WellFormed}
+use Rattle.statement.specs.Growing.{byMatrix, cost, trivials, others}
 use Rattle.statement.specs.Tree.{root, treeOf, walk}
 use Rattle.statement.specs.Bytes.{treeIn, treeLength}
 use Rattle.statement.specs.Refusals.{Check, Given}
@@ -33,22 +34,28 @@ abbrev pub groupNumber : (n : ℕ) → Way n → ℕ
 groupNumber n way = groupOf (λ i. not (Bool·beq (way .side i) (way .side 0))) n
 
 -- every four uu'|vv' with u and u' in one group, v and v' in the other
-abbrev pub EveryFour : (n : ℕ) → Way n → (ℕ → ℕ → ℕ → ℕ → Type 0) → Type 0
+abbrev pub EveryFour : (n : ℕ) → Way n → (Way n → ℕ → ℕ → ℕ → ℕ → Type 0) → Type 0
 EveryFour n way Above =
     (u u′ v v′ : ℕ) → u < n → u′ < n → v < n → v′ < n → way .side u ≡ way .side u′ → way .side v ≡ way .side v′ → way .side u ≢ way .side v
-    → Above u u′ v v′
+    → Above way u u′ v v′
 
--- what the rule asks about scores above zero: on a matrix every four, repeats too; on a table each four of different taxa stands in it, so parted
-abbrev pub MatrixAbove : ℕ → List ℕ → ℕ → ℕ → ℕ → ℕ → Type 0
-MatrixAbove n entries u u′ v v′ = pos 0 <ℤ score (distance n entries) u u′ v v′
+-- two trees of a group are different, unless the tree is alone on its side
+abbrev pub DifferentUnlessAlone : (n : ℕ) → Way n → ℕ → ℕ → Type 0
+DifferentUnlessAlone n way u u′ = u ≡ u′ → ((i : ℕ) → i < n → way .side i ≡ way .side u → i ≡ u)
 
-abbrev pub TableAbove : List ℕ → ℕ → ℕ → ℕ → ℕ → Type 0
-TableAbove bytes u u′ v v′ = u ≢ u′ → v ≢ v′ → stands bytes u u′ v v′ ≡ true
+-- what the rule asks about scores above zero: on a matrix a group of two or more gives only pairs of different trees; on a table each four of different
+-- taxa stands in it, so parted
+abbrev pub MatrixAbove : (n : ℕ) → List ℕ → Way n → ℕ → ℕ → ℕ → ℕ → Type 0
+MatrixAbove n entries way u u′ v v′ =
+    DifferentUnlessAlone n way u u′ → DifferentUnlessAlone n way v v′ → pos 0 <ℤ score (distance n entries) u u′ v v′
+
+abbrev pub TableAbove : (n : ℕ) → List ℕ → Way n → ℕ → ℕ → ℕ → ℕ → Type 0
+TableAbove n bytes way u u′ v v′ = u ≢ u′ → v ≢ v′ → stands bytes u u′ v v′ ≡ true
 
 -- DEMAND 3. "Of every way to part the trees into two non-empty groups, the list holds each way whose every four the rule asks about scores above
 -- zero, once, lowest group number first, and no other. No two listed splits conflict, there are at most 2n-3, and every walk up the finished tree
 -- ends at its root."
-pub record Demand3 (n : ℕ) (Above : ℕ → ℕ → ℕ → ℕ → Type 0) (reply : Growth) : Type 0 where
+pub record Demand3 (n : ℕ) (Above : Way n → ℕ → ℕ → ℕ → ℕ → Type 0) (reply : Growth) : Type 0 where
   pub finished : (reply .outcome ≡ Done) × (reply .list .taxa ≡ n)
   pub holds-each : (way : Way n) → EveryFour n way Above → Listed (groupNumber n way) (rowsOf (reply .list))
   pub once-lowest-first : Ascending 1 (2 ^ n) (clusters (rowsOf (reply .list)))
@@ -58,14 +65,14 @@ pub record Demand3 (n : ℕ) (Above : ℕ → ℕ → ℕ → ℕ → Type 0) (r
   pub walks-end : (v : ℕ) → v ≤ reply .list .rows
       → walk (treeOf n (rowsOf (reply .list))) (reply .list .rows) v ≡ root (treeOf n (rowsOf (reply .list)))
 
--- "A split with a group of one": two taxa of the cluster, or two of the other group, are the same taxon
-abbrev pub GroupOfOne : ℕ → ℕ → Type 0
-GroupOfOne k c =
-    ((v v′ : ℕ) → v < k → v′ < k → In c v → In c v′ → v ≡ v′) ⊎ ((u u′ : ℕ) → u < k → u′ < k → Out c u → Out c u′ → u ≡ u′)
-
 -- and what it costs: at most 2n² - 7n + 7 trials
 abbrev pub FewTrials : ℕ → Growth → Type 0
 FewTrials n reply = reply .trials + 7 * n ≤ 2 * (n * n) + 7
+
+-- the next taxon, on a matrix (document 02 §7): both extensions of every trivial split, listed or not, and of every listed one that is not trivial, plus
+-- one
+abbrev pub NextCost : (ℕ → ℕ → ℕ) → Splits → Type 0
+NextCost d s = cost (byMatrix d) s ≡ 2 * (trivials (s .taxa) + others (s .taxa) (clusters (rowsOf s))) + 1
 
 -- DEMAND 2, of the weights: each listed split weighs the least score over its fours; on a table, 1
 abbrev pub MatrixWeights : ℕ → List ℕ → Growth → Type 0

@@ -1,5 +1,6 @@
 // Document 01's figures that are run and not proved, a real matrix with its list from an independent program, and a differential run: grown lists
-// of small pseudo-random matrices and tables, uncut and cut into small allowances, against brute force over every split from the definition.
+// of small pseudo-random matrices and tables, uncut and cut into small allowances, and lists carried to another matrix, against brute force over every
+// split from the definition.
 use statement::Growth;
 use statement::Splits;
 ghost use Prim.Native.Nat.{_<_, _≤_};
@@ -185,6 +186,44 @@ fn table_differs(n: usize, bytes: [u8; 35], seed: u64) -> u64
     differs(false, n, [0; 49], bytes, g, p)
 }
 
+// 0 where a list of all taxa but the last grows on the matrix as the growth rule says, at just what the last one costs, and is short with one trial
+// less; else 1.
+fn grown_differs(n: usize, d: [u32; 49], old: Splits) -> u64
+    requires { ⌜ (2 ≤ n) × (n ≤ 7) ⌝ }
+{
+    let entries = samples::first_entries(&d, samples::entry_count(n));
+    let cost = brute::next_cost(n - 1, old);
+    let g = run::grow_matrix(n, entries, old, cost);
+    let short = run::grow_matrix(n, entries, old, cost - 1);
+    let grown = g.list;
+    let left = short.list;
+    if !brute::is_grown(n, &d, old, grown) {
+        return 1;
+    }
+    if g.trials == cost && short.trials == 0 && brute::same(old, left) {
+        return 0;
+    }
+    1
+}
+
+// The same for two lists from elsewhere: of another matrix, and of a table, where every row weighs 1.
+fn carried_differs(n: usize, d: [u32; 49], i: u64) -> u64
+    requires { ⌜ n ≤ 7 ⌝ }
+{
+    if n < 3 {
+        return 0;
+    }
+    let k = n - 1;
+    let other = samples::matrix(i % 5, k, i / 7);
+    let bytes = samples::table(&other, k);
+    let by_matrix = run::run_matrix(
+        k,
+        samples::first_entries(&other, samples::entry_count(k)),
+    ).list;
+    let by_table = run::run_table(k, samples::first_bytes(&bytes, samples::byte_count(k))).list;
+    grown_differs(n, d, by_matrix) | grown_differs(n, d, by_table)
+}
+
 // Case i of the differential run: n from 2 to 7, a matrix in one of five shapes and the table made from it, and every fifth time a table of
 // bytes drawn at random.
 fn case_differs(i: u64) -> u64 {
@@ -194,6 +233,7 @@ fn case_differs(i: u64) -> u64 {
     let bytes = samples::table(&d, n);
     let drawn = samples::drawn_table(i);
     let mut differs = matrix_differs(n, d, i);
+    differs = differs | carried_differs(n, d, i);
     differs = differs | table_differs(n, bytes, i);
     if shape == 0 {
         differs = differs | table_differs(n, drawn, i);
@@ -210,7 +250,9 @@ fn differential() {
         }
         i += 1;
     }
-    print::say(b"1200 matrices and 1440 tables; the last that differs (0: none): ");
+    print::say(
+        b"1200 matrices, 1440 tables and 2000 carried lists; the last that differs (0: none): ",
+    );
     print::number(count);
     print::say(b"\n");
 }

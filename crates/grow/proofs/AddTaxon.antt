@@ -7,19 +7,21 @@ use mathlib.Core.List.{List, [], _∷_, _++_, append-assoc}
 use lib.ListN.{length, getD, replicate, length-append, length-map}
 use lib.Pow.{pow-mono}
 use Rattle.statement.specs.declared.Splits.{Splits}
-use Rattle.statement.specs.Rows.{Row, row, clusters, listIn, rowsOf, filled, listOf, WellFormed}
-use Rattle.statement.specs.Growing.{kept, enlarged, larger}
+use Rattle.statement.specs.Rows.{Row, row, clusters, listIn, rowsOf, filled, listOf, Ascending}
+use Rattle.statement.specs.Growing.{kept, enlarged}
 use Rattle.statement.proofs.Listed.{asc-mem, mem-getD}
-use Rattle.splits_list.proofs.Laws.{Roomy, rows-length, cluster-at}
-use Rattle.grow.specs.Appended.{appended, raised}
-use Rattle.grow.proofs.Laws.{kept-append, appended-list, raised-none}
+use Rattle.splits_list.proofs.Laws.{Roomy, rows-length, cluster-at, appended-list}
+use Rattle.splits_list.specs.Pushed.{appended}
+use Rattle.grow.specs.Source.{withTaxon}
+use Rattle.grow.specs.Raised.{raised}
+use Rattle.grow.proofs.Laws.{kept-append, raised-none}
 
--- a cluster of a well-formed list, with the newcomer or without, is a number of 64 bits
-pub cluster-fits : (most n : ℕ) (s : Splits) → Roomy s → n ≤ 64 → s .taxa < n → WellFormed most n s → (b : ℕ) → b ≤ 2 ^ s .taxa
+-- a cluster of a list within its taxa, with the newcomer or without, is a number of 64 bits
+pub cluster-fits : (n : ℕ) (s : Splits) → Roomy s → n ≤ 64 → s .taxa < n → Ascending 1 (2 ^ s .taxa) (clusters (rowsOf s)) → (b : ℕ) → b ≤ 2 ^ s .taxa
     → (i : ℕ) → i < s .rows → b + getD (s .clusters) i 0 < 2 ^ 64
-cluster-fits most n s room few more w b lb i l =
+cluster-fits n s room few more up b lb i l =
     let m = mem-getD (clusters (rowsOf s)) i (omega (arith, rows-length s room, length-map (rowsOf s) (λ r. r .cluster))) in
-    omega (arith, asc-mem 1 (2 ^ s .taxa) (clusters (rowsOf s)) (w .up) (getD (clusters (rowsOf s)) i 0) m, cluster-at s room i l, pow-mono {i = suc (s .taxa)} {j = 64} (omega arith))
+    omega (arith, asc-mem 1 (2 ^ s .taxa) (clusters (rowsOf s)) up (getD (clusters (rowsOf s)) i 0) m, cluster-at s room i l, pow-mono {i = suc (s .taxa)} {j = 64} (omega arith))
 
 -- columns of zeros are the empty list
 pub blank : (k : ℕ) → listIn (suc k) 0 (replicate 125 0) (replicate 125 0) ≡ listOf (k + 1) []
@@ -86,7 +88,7 @@ module _ (trial : ℕ → ℕ → ℕ → ℕ → ℕ) (most : ℕ) (s : Splits)
     pub third-room : t .rows + length (kept (tries trial s) (raised b (rowsOf s))) ≤ 125
     third-room = omega (arith, rows-is t ((without trial s) ++ (single trial most s)) is, length-append (without trial s) (single trial most s), ap length with-is, sizes)
 
-    pub third-is : (u : Splits) → u ≡ appended t (kept (tries trial s) (raised b (rowsOf s))) → u ≡ larger trial most s
+    pub third-is : (u : Splits) → u ≡ appended t (kept (tries trial s) (raised b (rowsOf s))) → u ≡ withTaxon trial most s
     third-is u e =
         e ∙ ap₂ appended is with-is ∙ appended-list (suc (s .taxa)) ((without trial s) ++ (single trial most s)) (within trial s) (omega (arith, length-append (without trial s) (single trial most s), sizes))
         ∙ ap (listOf (suc (s .taxa))) (append-assoc (without trial s) (single trial most s) (within trial s) ∙ sym parts)

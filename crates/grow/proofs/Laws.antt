@@ -4,16 +4,16 @@ use native.Mathlib.Omega.{arith}
 use native.Mathlib.Numerals.{add-one}
 use mathlib.Core.Path.{_≡_, refl, sym, _∙_, ap, ap₂}
 use mathlib.Core.Bool.{Bool, true, false}
-use mathlib.Core.List.{List, [], _∷_, _++_, append-assoc, append-nil}
+use mathlib.Core.List.{List, [], _∷_, _++_}
 use lib.Dec.{ltb}
 use lib.ListN.{length, drop, getD, length-append}
 use borrow.Author.Tests.{lt-ltb, le-ltb}
 use Rattle.statement.specs.declared.Splits.{Splits}
-use Rattle.statement.specs.Rows.{Row, row, rowsOf, listOf}
+use Rattle.statement.specs.Rows.{Row, row, rowsOf}
 use Rattle.statement.specs.Growing.{consIf, kept}
-use Rattle.splits_list.specs.Pushed.{pushed}
-use Rattle.splits_list.proofs.Laws.{Roomy, pushed-listOf, rows-at, rows-end}
-use Rattle.grow.specs.Appended.{appended, raised}
+use Rattle.splits_list.specs.Pushed.{pushed, appended}
+use Rattle.splits_list.proofs.Laws.{Roomy, rows-at, rows-end, appended-append, appended-rows}
+use Rattle.grow.specs.Raised.{raised}
 
 -- kept rows of two lists
 pub kept-append : (f : ℕ → ℕ → ℕ) (xs ys : List Row) → kept f (xs ++ ys) ≡ kept f xs ++ kept f ys
@@ -27,21 +27,6 @@ kept-append f (r ∷ rs) ys = go (ltb 0 (f (r .cluster) (r .weight))) (kept-appe
     go : (b : Bool) → kept f (rs ++ ys) ≡ kept f rs ++ kept f ys → consIf b x (kept f (rs ++ ys)) ≡ consIf b x (kept f rs) ++ kept f ys
     go true e = ap (λ (l : List Row). x ∷ l) e
     go false e = e
-
--- rows pushed after others
-pub appended-append : (s : Splits) (xs ys : List Row) → appended s (xs ++ ys) ≡ appended (appended s xs) ys
-appended-append s [] ys = refl
-appended-append s (x ∷ xs) ys = appended-append (pushed s (x .cluster) (x .weight)) xs ys
-
-pub appended-rows : (s : Splits) (xs : List Row) → appended s xs .rows ≡ s .rows + length xs
-appended-rows s [] = omega arith
-appended-rows s (x ∷ xs) = omega (arith, appended-rows (pushed s (x .cluster) (x .weight)) xs)
-
-pub appended-list : (k : ℕ) (xs ys : List Row) → length xs + length ys ≤ 125 → appended (listOf k xs) ys ≡ listOf k (xs ++ ys)
-appended-list k xs [] h = ap (listOf k) (sym (append-nil xs))
-appended-list k xs (y ∷ ys) h =
-    ap (λ (s : Splits). appended s ys) (pushed-listOf k xs (y .cluster) (y .weight) (omega arith))
-    ∙ appended-list k (xs ++ (y ∷ [])) ys (omega (arith, length-append xs (y ∷ []))) ∙ ap (listOf k) (append-assoc xs (y ∷ []) ys)
 
 -- one candidate, kept or not
 pub kept-one : (f : ℕ → ℕ → ℕ) (c w : ℕ) → 0 < f c w → kept f (row c w ∷ []) ≡ row c (f c w) ∷ []

@@ -1,2 +1,2 @@
 pub mod Source
-pub mod Appended
+pub mod Raised

@@ -1,5 +1,7 @@
 // Growth of a list, a taxon at a time: one piece of code for both kinds of source. Document 01, "Growing and the allowance".
 // A source comes as its kind with both slices, of which one is used: kind 1 has a matrix in `entries`, any other a table in `bytes`.
+use bits::single;
+use parents::with_trivial;
 use statement::Growth;
 use statement::Outcome;
 use statement::Splits;
@@ -7,10 +9,11 @@ ghost use mathlib.Core.Path.{_≡_};
 ghost use mathlib.Core.List.{[], _∷_};
 ghost use Prim.Native.Nat.{ℕ, suc, _+_, _-_, _^_, _<_, _≤_};
 ghost use lib.ListN.{length, getD};
-ghost use Rattle.statement.specs.Rows.{row, listIn, rowsOf, WellFormed};
-ghost use Rattle.statement.specs.Growing.{kept, larger, grown};
-ghost use Rattle.grow.specs.Source.{trialBy, mostBy, Source};
-ghost use Rattle.grow.specs.Appended.{appended, raised};
+ghost use Rattle.statement.specs.Rows.{row, clusters, listIn, rowsOf, Ascending, WellFormed};
+ghost use Rattle.statement.specs.Growing.{kept, enlarged, grown};
+ghost use Rattle.splits_list.specs.Pushed.{appended};
+ghost use Rattle.grow.specs.Source.{trialBy, mostBy, parentsBy, mannerBy, extendedBy, withTaxon, Source};
+ghost use Rattle.grow.specs.Raised.{raised};
 
 // The most that a split can weigh: what the newcomer alone starts from.
 pub fn most(kind: u8) -> u32
@@ -107,26 +110,31 @@ fn pass(
     count
 }
 
-// The cluster of one taxon.
-fn alone(k: usize) -> u64
-    requires { ⌜ k < 64 ⌝ }
-    ensures { λ r. ⌜ r ≡ 2 ^ k ⌝ }
+// What the next taxon extends: the list itself, on a matrix with every trivial split put in (document 02 §7).
+fn parents(kind: u8, s: Splits) -> Splits
+    requires { ⌜ (s .taxa < 64) × (s .rows ≤ 125) × (s .taxa < 2 → s .rows ≡ 0) ⌝ }
+    requires { ⌜ length (parentsBy kind (s .taxa) (rowsOf s)) ≤ 125 ⌝ }
+    ensures { λ r. ⌜ r ≡ extendedBy kind s ⌝ }
 {
-    1u64 << k
+    if kind == 1 {
+        return with_trivial(s, 2000000);
+    }
+    s
 }
 
-// One taxon more: the old splits without the newcomer, the newcomer by itself, the old splits with it.
+// One taxon more, of a list of what is extended: each split without the newcomer, the newcomer by itself, each split with it.
 fn add_taxon(kind: u8, n: usize, entries: &[u32], bytes: &[u8], s: Splits) -> Splits
-    requires { ⌜ Source kind n (now entries) (now bytes) × (s .taxa < n) × WellFormed (mostBy kind) n s ⌝ }
-    ensures { λ r. ⌜ r ≡ larger (trialBy kind n (now (entries .entry)) (now (bytes .entry))) (mostBy kind) s ⌝ }
+    requires { ⌜ Source kind n (now entries) (now bytes) × (s .taxa < n) × (s .rows ≤ 125) × Ascending 1 (2 ^ s .taxa) (clusters (rowsOf s)) ⌝ }
+    requires { ⌜ length (enlarged (trialBy kind n (now entries) (now bytes)) (mostBy kind) (s .taxa) (rowsOf s)) ≤ 125 ⌝ }
+    ensures { λ r. ⌜ r ≡ withTaxon (trialBy kind n (now (entries .entry)) (now (bytes .entry))) (mostBy kind) s ⌝ }
 {
     let k = s.taxa;
-    let b = alone(k);
+    let b = single(k);
     let mut cs = [0u64; 125];
     let mut ws = [0u32; 125];
     let without = pass(kind, n, entries, bytes, k, s, 0, 0, &mut cs, &mut ws);
     let most = most(kind);
-    let single = offer(
+    let alone = offer(
         kind,
         n,
         entries,
@@ -138,7 +146,7 @@ fn add_taxon(kind: u8, n: usize, entries: &[u32], bytes: &[u8], s: Splits) -> Sp
         &mut cs,
         &mut ws,
     );
-    let rows = pass(kind, n, entries, bytes, k, s, b, single, &mut cs, &mut ws);
+    let rows = pass(kind, n, entries, bytes, k, s, b, alone, &mut cs, &mut ws);
     Splits {
         taxa: k + 1,
         rows,
@@ -157,13 +165,14 @@ pub fn grow_taxa(
     allowance: u64,
 ) -> Growth
     requires { ⌜ Source kind n (now entries) (now bytes) × WellFormed (mostBy kind) n s ⌝ }
-    ensures { λ r. ⌜ r ≡ grown (trialBy kind n (now (entries .entry)) (now (bytes .entry))) (mostBy kind) (n - s .taxa) allowance 0 s ⌝ }
+    ensures { λ r. ⌜ r ≡ grown (mannerBy kind n (now (entries .entry)) (now (bytes .entry))) (n - s .taxa) allowance 0 s ⌝ }
 {
     let mut t = s;
     let mut left = allowance;
     let mut spent: u64 = 0;
     while t.taxa < n {
-        let cost = 2 * (t.rows as u64) + 1;
+        let p = parents(kind, t);
+        let cost = 2 * (p.rows as u64) + 1;
         if left < cost {
             return Growth {
                 outcome: Outcome::Short,
@@ -173,7 +182,7 @@ pub fn grow_taxa(
         }
         left -= cost;
         spent += cost;
-        t = add_taxon(kind, n, entries, bytes, t);
+        t = add_taxon(kind, n, entries, bytes, p);
     }
     Growth {
         outcome: Outcome::Done,

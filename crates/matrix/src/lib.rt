@@ -1,18 +1,22 @@
 // A distance matrix, n by n, row by row: its checks, the score of a pairing, and the trial of a split over the fours that hold one taxon.
 // Document 01, "Scores and splits", "Growing and the allowance" and "Refusal numbers".
+use bits::is_alone;
+use bits::is_pair;
 use bits::same_side;
+use bits::whose;
 use statement::Outcome;
 ghost use Prim.Native.Nat.{_+_, _*_, _≤_, _<_, min};
 ghost use mathlib.Core.Path.{_≡_};
+ghost use mathlib.Core.Bool.{true};
 ghost use mathlib.Core.Logic.{_≢_};
 ghost use lib.IntN.{pos};
 ghost use lib.Signed.{ltZ};
 ghost use Rattle.statement.specs.Cluster.{bit};
 ghost use Rattle.statement.specs.Lowest.{lowest};
 ghost use Rattle.statement.specs.Matrix.{distance, score};
-ghost use Rattle.statement.specs.Growing.{above, matrixTrial};
+ghost use Rattle.statement.specs.Growing.{above, alone, pairs, pairTrial, matrixTrial};
 ghost use Rattle.statement.specs.Refusals.{outcomeOf, matrixChecks};
-ghost use Rattle.statement.proofs.Parts.{matrixSays, fourOf, withXY, withX};
+ghost use Rattle.statement.proofs.Parts.{pairSays, fourOf, withXY, withX};
 ghost use Rattle.matrix.specs.Square.{Square, Between};
 ghost use Rattle.matrix.specs.Entries.{entryCheck};
 
@@ -153,10 +157,12 @@ fn lowered(best: u32, score: i64) -> u32
     0
 }
 
-// A weight, lowered by the four ax|yz, where x is on a's side and y is on the other.
+// A weight, lowered by the four ax|yz of the split c of the first k taxa, where a, x is a pair of its group, y is on the other side, and `single`
+// says whether y is alone there.
 fn four(
     n: usize,
     entries: &[u32],
+    k: usize,
     a: usize,
     c: u64,
     x: usize,
@@ -165,20 +171,24 @@ fn four(
     ax: u64,
     ay: u64,
     xy: u64,
+    single: bool,
     best: u32,
 ) -> u32
     requires { ⌜ Square n (now entries) × (a < n) × (x < n) × (y < n) × (z < n) ⌝ }
     requires { ⌜ Between n (now entries) a x ax × Between n (now entries) a y ay × Between n (now entries) x y xy ⌝ }
-    requires { ⌜ (bit c x ≡ bit c a) × (bit c y ≢ bit c a) ⌝ }
-    ensures { λ r. ⌜ r ≡ min (fourOf (matrixSays (distance n (now (entries .entry))) a) a c best x y z) best ⌝ }
+    requires { ⌜ (bit c x ≡ bit c a) × (bit c y ≢ bit c a) × (pairs k c a x ≡ true) × (single ≡ alone k c y) ⌝ }
+    ensures { λ r. ⌜ r ≡ min (fourOf (pairSays (distance n (now (entries .entry))) k c a) a c best x y z) best ⌝ }
 {
     if same_side(c, a, z) {
+        return best;
+    }
+    if !is_pair(single, y, z) {
         return best;
     }
     lowered(best, score_of(n, entries, a, x, y, z, ax, ay, xy))
 }
 
-// A weight, lowered by the fours ax|yz with this y and any z, where x is on a's side.
+// A weight, lowered by the fours ax|yz with this y and any z, where a, x is a pair of its group.
 fn fours_with_xy(
     n: usize,
     entries: &[u32],
@@ -190,8 +200,8 @@ fn fours_with_xy(
     y: usize,
 ) -> u32
     requires { ⌜ Square n (now entries) × (k ≤ n) × (a < k) × (x < k) × (y < k) ⌝ }
-    requires { ⌜ bit c x ≡ bit c a ⌝ }
-    ensures { λ r. ⌜ r ≡ withXY (matrixSays (distance n (now (entries .entry))) a) k a c w x y ⌝ }
+    requires { ⌜ (bit c x ≡ bit c a) × (pairs k c a x ≡ true) ⌝ }
+    ensures { λ r. ⌜ r ≡ withXY (pairSays (distance n (now (entries .entry))) k c a) k a c w x y ⌝ }
 {
     if same_side(c, a, y) {
         return w;
@@ -199,10 +209,11 @@ fn fours_with_xy(
     let ax = between(n, entries, a, x);
     let ay = between(n, entries, a, y);
     let xy = between(n, entries, x, y);
+    let single = is_alone(k, c, y);
     let mut best = w;
     let mut z = 0;
     while z < k {
-        best = four(n, entries, a, c, x, y, z, ax, ay, xy, best);
+        best = four(n, entries, k, a, c, x, y, z, ax, ay, xy, single, best);
         z += 1;
     }
     best
@@ -211,9 +222,12 @@ fn fours_with_xy(
 // A weight, lowered by the fours ax|yz with this x and any y and z.
 fn fours_with_x(n: usize, entries: &[u32], k: usize, a: usize, c: u64, w: u32, x: usize) -> u32
     requires { ⌜ Square n (now entries) × (k ≤ n) × (a < k) × (x < k) ⌝ }
-    ensures { λ r. ⌜ r ≡ withX (matrixSays (distance n (now (entries .entry))) a) k a c w x ⌝ }
+    ensures { λ r. ⌜ r ≡ withX (pairSays (distance n (now (entries .entry))) k c a) k a c w x ⌝ }
 {
     if !same_side(c, a, x) {
+        return w;
+    }
+    if !is_pair(is_alone(k, c, a), a, x) {
         return w;
     }
     let mut best = w;
@@ -225,10 +239,11 @@ fn fours_with_x(n: usize, entries: &[u32], k: usize, a: usize, c: u64, w: u32, x
     best
 }
 
-// A trial of the split c of the first k taxa, over its fours ax|yz: 0 where some score is zero or below, else the least of w and the scores.
-pub fn trial(n: usize, entries: &[u32], k: usize, a: usize, c: u64, w: u32) -> u32
+// A trial of the split c of the first k taxa over its fours ax|yz that include a: 0 where some score is zero or below, else the least of w and the
+// scores.
+fn pair_trial(n: usize, entries: &[u32], k: usize, a: usize, c: u64, w: u32) -> u32
     requires { ⌜ Square n (now entries) × (k ≤ n) × (a < k) ⌝ }
-    ensures { λ r. ⌜ r ≡ matrixTrial (distance n (now (entries .entry))) k a c w ⌝ }
+    ensures { λ r. ⌜ r ≡ pairTrial (distance n (now (entries .entry))) k a c w ⌝ }
 {
     let mut best = w;
     let mut x = 0;
@@ -237,4 +252,13 @@ pub fn trial(n: usize, entries: &[u32], k: usize, a: usize, c: u64, w: u32) -> u
         x += 1;
     }
     best
+}
+
+// A trial: over all fours of the split where a taxon is alone in its group, else over those that include a.
+pub fn trial(n: usize, entries: &[u32], k: usize, a: usize, c: u64, w: u32) -> u32
+    requires { ⌜ Square n (now entries) × (k ≤ n) × (a < k) ⌝ }
+    ensures { λ r. ⌜ r ≡ matrixTrial (distance n (now (entries .entry))) k a c w ⌝ }
+{
+    let b = whose(k, a, c);
+    pair_trial(n, entries, k, b, c, w)
 }

@@ -21,8 +21,8 @@ use Rattle.statement.proofs.Refused.{append-checks, never-short}
 use Rattle.statement.proofs.Accepted.{matrix-accepted, table-accepted}
 use Rattle.statement.proofs.Lists.{rows-of-list}
 use Rattle.statement.proofs.Run.{run-bound, grown-whole}
-use Rattle.grow.specs.Source.{trialBy, mostBy}
-use Rattle.grow.proofs.Sources.{by-matrix, by-table, most-matrix, most-table, rule}
+use Rattle.grow.specs.Source.{mostBy, mannerBy}
+use Rattle.grow.proofs.Sources.{grows-matrix, grows-table, most-matrix, most-table, rule}
 use Rattle.run.specs.Replies.{isDone, Checked, listChecked, growBy, runBy}
 
 -- the list's check
@@ -61,7 +61,7 @@ module _ (kind n : ℕ) (entries bytes : List ℕ) (said : Outcome) (checked : C
     grow-unsound s allowance e = rw (done, list-bad kind n s e)
 
     pub grow-sound : (s : Splits) (allowance : ℕ) → wellFormed (mostBy kind) n s ≡ true
-        → grown (trialBy kind n entries bytes) (mostBy kind) (n - s .taxa) allowance 0 s ≡ growBy kind n entries bytes said s allowance
+        → grown (mannerBy kind n entries bytes) (n - s .taxa) allowance 0 s ≡ growBy kind n entries bytes said s allowance
     unfolding growBy
     grow-sound s allowance e = rw (done, list-good kind n s e)
 
@@ -88,18 +88,18 @@ module _ (kind n : ℕ) (entries bytes : List ℕ) (said : Outcome) (checked : C
         })
 
     -- 7,751 trials cover every run
-    covered : trialsAt (trialBy kind n entries bytes) (mostBy kind) n ≤ 7751
+    covered : trialsAt (mannerBy kind n entries bytes) n ≤ 7751
     covered =
-        let (r, e, plain) = rule kind n entries bytes (checked .accepted done) in
+        let (r, e, sound) = rule kind n entries bytes (checked .accepted done) in
         let few : n ≤ 64 = checked .accepted done .few in
-        omega (arith, run-bound r (mostBy kind) (trialBy kind n entries bytes) plain n two (omega arith), mul-le-mul few (le-refl n))
+        omega (arith, run-bound r (mannerBy kind n entries bytes) sound n two (omega arith), mul-le-mul few (le-refl n))
 
     pub run-whole : (one : Splits) → one ≡ listOf 1 []
-        → grown (trialBy kind n entries bytes) (mostBy kind) (n - one .taxa) 7751 0 one ≡ runBy kind n entries bytes said
+        → grown (mannerBy kind n entries bytes) (n - one .taxa) 7751 0 one ≡ runBy kind n entries bytes said
     unfolding runBy listOf
     run-whole one is =
-        ap (λ (s : Splits). grown (trialBy kind n entries bytes) (mostBy kind) (n - s .taxa) 7751 0 s) is
-        ∙ grown-whole (trialBy kind n entries bytes) (mostBy kind) n 7751 (omega (arith, two)) covered
+        ap (λ (s : Splits). grown (mannerBy kind n entries bytes) (n - s .taxa) 7751 0 s) is
+        ∙ grown-whole (mannerBy kind n entries bytes) n 7751 (omega (arith, two)) covered
         ∙ rw done
 
 -- EACH CALL is one of these: what isDone says
@@ -128,17 +128,17 @@ module _ (n : ℕ) (entries bytes : List ℕ) (said : Outcome) where
 
   pub run-matrix-is : said ≡ outcomeOf (matrixChecks n entries) → runBy 1 n entries bytes said ≡ runMatrix n entries
   unfolding runBy runMatrix
-  run-matrix-is is = rw (is, by-matrix 1 n entries bytes refl, most-matrix 1 refl)
+  run-matrix-is is = rw (is, grows-matrix 1 n entries bytes refl)
 
   pub run-table-is : said ≡ outcomeOf (tableChecks n bytes) → runBy 2 n entries bytes said ≡ runTable n bytes
   unfolding runBy runTable
-  run-table-is is = rw (is, by-table 2 n entries bytes (λ e. omega arith), most-table 2 (λ e. omega arith))
+  run-table-is is = rw (is, grows-table 2 n entries bytes (λ e. omega arith))
 
   pub grow-matrix-is : (s : Splits) (allowance : ℕ) → said ≡ outcomeOf (matrixChecks n entries) → growBy 1 n entries bytes said s allowance ≡ growMatrix n entries s allowance
   unfolding growBy listChecked growMatrix
-  grow-matrix-is s allowance is = rw (is, by-matrix 1 n entries bytes refl, most-matrix 1 refl, append-checks (matrixChecks n entries) (listOff weightLimit n s ∷ []))
+  grow-matrix-is s allowance is = rw (is, grows-matrix 1 n entries bytes refl, most-matrix 1 refl, append-checks (matrixChecks n entries) (listOff weightLimit n s ∷ []))
 
   pub grow-table-is : (s : Splits) (allowance : ℕ) → said ≡ outcomeOf (tableChecks n bytes) → growBy 2 n entries bytes said s allowance ≡ growTable n bytes s allowance
   unfolding growBy listChecked growTable
   grow-table-is s allowance is =
-      rw (is, by-table 2 n entries bytes (λ e. omega arith), most-table 2 (λ e. omega arith), append-checks (tableChecks n bytes) (listOff tableWeight n s ∷ []))
+      rw (is, grows-table 2 n entries bytes (λ e. omega arith), most-table 2 (λ e. omega arith), append-checks (tableChecks n bytes) (listOff tableWeight n s ∷ []))

@@ -10,7 +10,7 @@ use Rattle.statement.specs.declared.Outcome.the-variants.{Done, Short, Refused}
 use Rattle.statement.specs.Growing.{grown, wholeRun}
 use Rattle.statement.specs.Refusals.{outcomeOf, listOff}
 use Rattle.statement.specs.Calls.{unlessRefused, refusedRun, refusedGrowth}
-use Rattle.grow.specs.Source.{trialBy, mostBy, Source}
+use Rattle.grow.specs.Source.{mostBy, mannerBy, Source}
 
 abbrev pub isDone : Outcome → Bool
 isDone Done = true
@@ -29,7 +29,7 @@ listChecked kind n s said = unlessRefused said said (outcomeOf (listOff (mostBy 
 unfoldable pub growBy : ℕ → ℕ → List ℕ → List ℕ → Outcome → Splits → ℕ → Growth
 growBy kind n entries bytes said s allowance =
     let o = listChecked kind n s said in
-    unlessRefused o (refusedGrowth o s) (grown (trialBy kind n entries bytes) (mostBy kind) (n - s .taxa) allowance 0 s)
+    unlessRefused o (refusedGrowth o s) (grown (mannerBy kind n entries bytes) (n - s .taxa) allowance 0 s)
 
 unfoldable pub runBy : ℕ → ℕ → List ℕ → List ℕ → Outcome → Growth
-runBy kind n entries bytes said = unlessRefused said (refusedRun said) (wholeRun (trialBy kind n entries bytes) (mostBy kind) n)
+runBy kind n entries bytes said = unlessRefused said (refusedRun said) (wholeRun (mannerBy kind n entries bytes) n)

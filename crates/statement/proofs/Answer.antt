@@ -1,8 +1,9 @@
 -- Ascending lists of clusters, the full answer of a rule, and what is kept of the candidates, over clusters alone. Assumes nothing.
-use Prim.Native.Nat.{ℕ, _+_, _^_}
+use Prim.Native.Nat.{ℕ, zero, suc, _+_, _-_, _^_}
 use mathlib.Core.Logic.{_↔_}
 use mathlib.Core.Bool.{Bool, cond}
 use mathlib.Core.List.{List, [], _∷_, _++_, map}
+use lib.Dec.{ltb, eqb}
 use Rattle.statement.specs.Cluster.{Out, Conflict}
 use Rattle.statement.specs.Rows.{Ascending, Mem}
 use Rattle.statement.proofs.Rule.{Rule, Supported, Weight}
@@ -30,3 +31,18 @@ keepIf p (x ∷ xs) = cond (p x) (x ∷ keepIf p xs) (keepIf p xs)
 -- the clusters of the candidates: each old split with the newcomer outside; the newcomer alone; each with the newcomer inside
 abbrev pub extensions : ℕ → List ℕ → List ℕ
 extensions k rows = rows ++ 2 ^ k ∷ map (λ c. 2 ^ k + c) rows
+
+-- the clusters of withSingles and withTrivial
+unfoldable pub ins : ℕ → List ℕ → List ℕ
+ins x [] = x ∷ []
+ins x (y ∷ ys) = cond (ltb x y) (x ∷ y ∷ ys) (cond (eqb x y) (y ∷ ys) (y ∷ ins x ys))
+
+unfoldable pub fillTo : ℕ → List ℕ → List ℕ
+fillTo zero rows = rows
+fillTo (suc zero) rows = rows
+fillTo (suc (suc i)) rows = ins (2 ^ suc i) (fillTo (suc i) rows)
+
+unfoldable pub fill : ℕ → List ℕ → List ℕ
+fill zero rows = rows
+fill (suc zero) rows = rows
+fill (suc (suc k)) rows = ins (2 ^ suc (suc k) - 2) (fillTo (suc (suc k)) rows)

@@ -1,9 +1,9 @@
--- ONE TAXON MORE, over rows: the enlarged list holds exactly the candidates whose fours with the newcomer are all above zero, at the lesser of old
--- weight and new scores; it is well-formed again; and the full answer for k taxa grows to that for k + 1. Assumes nothing.
+-- ONE TAXON MORE, over rows: the enlarged list holds exactly the candidates whose fours that are looked at are all above zero; it is well-formed again;
+-- and the full answer for k taxa grows to that for k + 1. Assumes nothing.
 use Prim.Native.Nat.{ℕ, suc, _+_, _%_, _^_, _≤_, _<_}
 use native.Mathlib.Omega.{arith}
 use native.Mathlib.Nat.{mod-self, le-refl}
-use native.Mathlib.Decide.{ℕ-discrete}
+use native.Mathlib.Decide.{decLt, ℕ-discrete}
 use mathlib.Core.Path.{_≡_, refl, sym, _∙_, ap, subst}
 use mathlib.Core.Logic.{_⊎_, inl, inr, _↔_}
 use mathlib.Core.Bool.{Bool, true, false, cond}
@@ -11,12 +11,14 @@ use mathlib.Core.List.{List, [], _∷_, _++_, map}
 use lib.Dec.{T, ltb, eqb, ltb→lt, lt→ltb}
 use borrow.Author.Tests.{eq-eqb, ne-eqb, eqb-true, eqb-false}
 use Rattle.statement.specs.Rows.{Row, row, clusters, weights, Ascending, Mem, Listed, weightIn}
-use Rattle.statement.specs.Growing.{candidates, consIf, kept, enlarged}
-use Rattle.statement.proofs.Rule.{Rule, Laws, New, Weight, Trial, Value}
+use Rattle.statement.specs.Cluster.{Split}
+use Rattle.statement.specs.Growing.{candidates, consIf, kept, enlarged, Manner, grownRows}
+use Rattle.statement.proofs.Rule.{Rule, Laws, Weight, Trial, Kept, Parent, Value}
 use Rattle.statement.proofs.Answer.{Clean, Full, Weighed, keepIf, extensions}
-use Rattle.statement.proofs.Listed.{asc-mem, mem-keep, mem-keep-of}
+use Rattle.statement.proofs.Listed.{asc-mem, clean-split, mem-keep, mem-keep-of}
 use Rattle.statement.proofs.Grow.{mod-cases}
-use Rattle.statement.proofs.Full.{candidate-of, extensions-up, weighed-grow, well-grow, parents-rows}
+use Rattle.statement.proofs.Weigh.{value-kept}
+use Rattle.statement.proofs.Full.{candidate-of, extensions-up, weighed-grow, well-grow}
 
 -- the clusters of the candidates
 clusters-append : (xs ys : List Row) → clusters (xs ++ ys) ≡ clusters xs ++ clusters ys
@@ -143,12 +145,53 @@ weights-keepOne v cs w m =
     go (x ∷ xs) (inl e) = (x, inl refl, e)
     go (x ∷ xs) (inr n) = let (c, q, e) = go xs n in (c, inr q, e)
 
--- A RULE AS DOCUMENT 01 HAS THEM (nothing is weighed anew, one cap), and a trial that answers by it
+-- WHAT IS EXTENDED, of rows without conflict: the rows, and each split that is weighed anew, listed or not. Those start from the most that a split can
+-- weigh, the others from their weight
+pub record Extended (r : Rule) (most k : ℕ) (rows parents : List Row) : Type 0 where
+  pub clean : Clean k (clusters parents)
+  pub exact : (p : ℕ) → Listed p parents ↔ ((Split k p × T (r .anew k p)) ⊎ Listed p rows)
+  pub anew : (p : ℕ) → Listed p parents → T (r .anew k p) → weightIn parents p ≡ most
+  pub old : (p : ℕ) → Listed p parents → r .anew k p ≡ false → weightIn parents p ≡ weightIn rows p
+
+-- WHAT A TRIAL ANSWERS, from the weight w: v
+pub record Tried (r : Rule) (most k c w v : ℕ) : Type 0 where
+  pub alone : c ≡ 2 ^ k → w ≡ most → Trial r k c most v
+  pub old : Split k (c % 2 ^ k) → r .anew k (c % 2 ^ k) ≡ false → Trial r k c w v
+  pub anew : Split k (c % 2 ^ k) → T (r .anew k (c % 2 ^ k)) → w ≡ most → Weight r (suc k) c v
+
+-- A MANNER OF GROWTH that answers by a rule
+pub record Sound (r : Rule) (g : Manner) : Type 0 where
+  pub laws : Laws r
+  pub caps : (k c : ℕ) → r .cap k c ≡ g .most
+  pub extends : (k : ℕ) (rows : List Row) → Clean k (clusters rows) → Extended r (g .most) k rows (g .parents k rows)
+  pub tries : (k c w : ℕ) → suc k ≤ r .taxa → 0 < k → Tried r (g .most) k c w (g .trial (suc k) k c w)
+
+-- A RULE AS DOCUMENT 01 HAS THEM (nothing is weighed anew, one cap), and a trial that answers by it: the rows are extended as they are
 pub record Plain (r : Rule) (most : ℕ) (trial : ℕ → ℕ → ℕ → ℕ → ℕ) : Type 0 where
   pub laws : Laws r
   pub never : (k p : ℕ) → r .anew k p ≡ false
   pub caps : (k c : ℕ) → r .cap k c ≡ most
   pub tries : (k c w : ℕ) → Trial r k c w (trial (suc k) k c w)
+
+pub plain-sound : (r : Rule) (most : ℕ) (trial : ℕ → ℕ → ℕ → ℕ → ℕ) → Plain r most trial → Sound r (record { trial = trial; most = most; parents = λ k rows. rows })
+plain-sound r most trial plain =
+    record {
+      laws = plain .laws;
+      caps = plain .caps;
+      extends = λ k rows w.
+          record {
+            clean = w;
+            exact = λ p. ((λ m. inr m), (λ h. elim h [ inl s ↦ absurd (subst T (plain .never k p) (s .1)) | inr m ↦ m ]));
+            anew = λ p m t. absurd (subst T (plain .never k p) t);
+            old = λ p m e. refl;
+          };
+      tries = λ k c w fits pk.
+          record {
+            alone = λ e q. subst (λ (m : ℕ). Trial r k c m (trial (suc k) k c w)) q (plain .tries k c w);
+            old = λ s e. plain .tries k c w;
+            anew = λ s t q. absurd (subst T (plain .never k (c % 2 ^ k)) t);
+          };
+    }
 
 -- the rows of a well-formed list, and of the full answer of a rule
 pub record WellRows (most k : ℕ) (rows : List Row) : Type 0 where
@@ -167,108 +210,141 @@ weight-listed (r ∷ rs) c m = go (eqb (r .cluster) c) refl m (λ n. weight-list
     go false e (inl q) ih = absurd (eqb-false (r .cluster) c e (sym q))
     go false e (inr n) ih = inr (ih n)
 
-module _ (r : Rule) (most : ℕ) (trial : ℕ → ℕ → ℕ → ℕ → ℕ) (plain : Plain r most trial) (k : ℕ) (fits : suc k ≤ r .taxa) (pk : 0 < k) (rows : List Row)
-    (up : Ascending 1 (2 ^ k) (clusters rows)) where
+module _ (r : Rule) (g : Manner) (sound : Sound r g) (k : ℕ) (fits : suc k ≤ r .taxa) (pk : 0 < k) (rows : List Row) (clean : Clean k (clusters rows)) where
+  -- what is extended
+  given : List Row
+  given = g .parents k rows
+
+  extended : Extended r (g .most) k rows given
+  unfolding given
+  extended = sound .extends k rows clean
+
+  up : Ascending 1 (2 ^ k) (clusters given)
+  up = extended .clean .up
+
   -- what growth gives a candidate
-  pub value : ℕ → ℕ
-  value c = trial (suc k) k c (weightIn (candidates most k rows) c)
+  value : ℕ → ℕ
+  value c = g .trial (suc k) k c (weightIn (candidates (g .most) k given) c)
 
-  enlarged-is : enlarged trial most k rows ≡ keepOne value (extensions k (clusters rows))
-  unfolding enlarged value
+  enlarged-is : grownRows g k rows ≡ keepOne value (extensions k (clusters given))
+  unfolding enlarged value given
   enlarged-is =
-      kept-is (trial (suc k) k) 1 (2 ^ suc k) (candidates most k rows) (candidates most k rows)
-      (subst (Ascending 1 (2 ^ suc k)) (sym (candidate-clusters most k rows)) (extensions-up k (clusters rows) up)) (λ c l. refl)
-      ∙ ap (keepOne value) (candidate-clusters most k rows)
+      kept-is (g .trial (suc k) k) 1 (2 ^ suc k) (candidates (g .most) k given) (candidates (g .most) k given)
+      (subst (Ascending 1 (2 ^ suc k)) (sym (candidate-clusters (g .most) k given)) (extensions-up k (clusters given) up)) (λ c l. refl)
+      ∙ ap (keepOne value) (candidate-clusters (g .most) k given)
 
-  enlarged-clusters : clusters (enlarged trial most k rows) ≡ keepIf (λ c. ltb 0 (value c)) (extensions k (clusters rows))
-  enlarged-clusters = ap clusters enlarged-is ∙ clusters-keepOne value (extensions k (clusters rows))
+  enlarged-clusters : clusters (grownRows g k rows) ≡ keepIf (λ c. ltb 0 (value c)) (extensions k (clusters given))
+  enlarged-clusters = ap clusters enlarged-is ∙ clusters-keepOne value (extensions k (clusters given))
 
   -- its weight in the enlarged list
-  pub enlarged-weight : (c : ℕ) → Listed c (enlarged trial most k rows) → weightIn (enlarged trial most k rows) c ≡ value c
+  enlarged-weight : (c : ℕ) → Listed c (grownRows g k rows) → weightIn (grownRows g k rows) c ≡ value c
   enlarged-weight c m =
       ap (λ (l : List Row). weightIn l c) enlarged-is
-      ∙ weight-keepOne value (extensions k (clusters rows)) c (subst (Mem c) enlarged-clusters m)
+      ∙ weight-keepOne value (extensions k (clusters given)) c (subst (Mem c) enlarged-clusters m)
 
-  -- which is its trial's answer
-  pub enlarged-trial : (c : ℕ) → Listed c (enlarged trial most k rows) → Trial r k c (weightIn (candidates most k rows) c) (weightIn (enlarged trial most k rows) c)
+  -- the newcomer by itself, or an extension of a split
+  parent-split : (p : ℕ) → Listed p given → Split k p
+  parent-split p m = clean-split k (clusters given) (extended .clean) p m
+
+  -- A CANDIDATE: the newcomer by itself, or with its parent
+  value-is : (c : ℕ) → Mem c (extensions k (clusters given)) → Value r k (weightIn rows) c (value c)
   unfolding value
-  enlarged-trial c m = subst (Trial r k c (weightIn (candidates most k rows) c)) (sym (enlarged-weight c m)) (plain .tries k c (weightIn (candidates most k rows) c))
-
-  -- the value is a trial from the old weight, or for the newcomer alone from the most
-  pub value-old : (c : ℕ) → Mem c (extensions k (clusters rows)) → 0 < c % 2 ^ k → Trial r k c (weightIn rows (c % 2 ^ k)) (value c)
-  unfolding value
-  value-old c m p = subst (λ (w : ℕ). Trial r k c w (value c)) (start-old most k rows up c m p) (plain .tries k c (weightIn (candidates most k rows) c))
-
-  pub value-alone : Trial r k (2 ^ k) most (value (2 ^ k))
-  unfolding value
-  value-alone = subst (λ (w : ℕ). Trial r k (2 ^ k) w (value (2 ^ k))) (start-alone most k rows up) (plain .tries k (2 ^ k) (weightIn (candidates most k rows) (2 ^ k)))
-
-  value-is : (c : ℕ) → Mem c (extensions k (clusters rows)) → Value r k (weightIn rows) c (value c)
   value-is c m =
       record {
-        alone = λ e. subst (λ (a : ℕ). Trial r k a (r .cap (suc k) a) (value a)) (sym (only e)) (subst (λ (w : ℕ). Trial r k (2 ^ k) w (value (2 ^ k))) (sym (plain .caps (suc k) (2 ^ k))) value-alone);
-        old = λ p e. value-old c m p;
-        anew = λ p t. absurd (subst T (plain .never k (c % 2 ^ k)) t);
+        alone = λ e.
+            subst (λ (w : ℕ). Trial r k c w (value c)) (sym (sound .caps (suc k) c))
+            (tried .alone (only e) (ap (weightIn (candidates (g .most) k given)) (only e) ∙ start-alone (g .most) k given up));
+        old = λ p e. subst (λ (w : ℕ). Trial r k c w (value c)) (start-old (g .most) k given up c m p ∙ extended .old (c % 2 ^ k) (parent p) e) (tried .old (parent-split (c % 2 ^ k) (parent p)) e);
+        anew = λ p t. tried .anew (parent-split (c % 2 ^ k) (parent p)) t (start-old (g .most) k given up c m p ∙ extended .anew (c % 2 ^ k) (parent p) t);
       }
     where
+      tried : Tried r (g .most) k c (weightIn (candidates (g .most) k given) c) (value c)
+      tried = sound .tries k c (weightIn (candidates (g .most) k given) c) fits pk
+
+      of : (c ≡ 2 ^ k) ⊎ Mem (c % 2 ^ k) (clusters given)
+      of = candidate-of k (clusters given) up c m .1
+
       only : c % 2 ^ k ≡ 0 → c ≡ 2 ^ k
-      only e = go (candidate-of k (clusters rows) up c m .1)
-        where
-          go : (c ≡ 2 ^ k) ⊎ Mem (c % 2 ^ k) (clusters rows) → c ≡ 2 ^ k
-          go (inl q) = q
-          go (inr n) = absurd (omega (arith, asc-mem 1 (2 ^ k) (clusters rows) up (c % 2 ^ k) n))
+      only e = elim of [ inl q ↦ q | inr n ↦ absurd (omega (arith, asc-mem 1 (2 ^ k) (clusters given) up (c % 2 ^ k) n)) ]
 
-  -- a value is above zero where every new four is
-  value-new : ((c : ℕ) → Listed c rows → 0 < weightIn rows c) → (c : ℕ) → Mem c (extensions k (clusters rows)) → (0 < value c) ↔ New r 1 k c
-  value-new positive c m = go (candidate-of k (clusters rows) up c m .1)
+      parent : 0 < c % 2 ^ k → Listed (c % 2 ^ k) given
+      parent p = elim of [ inl q ↦ absurd (omega (arith, ap (λ (a : ℕ). a % 2 ^ k) q, mod-self (2 ^ k))) | inr n ↦ n ]
+
+  -- a value is above zero where every four that is looked at is
+  value-above : ((c : ℕ) → Listed c rows → 0 < weightIn rows c) → (c : ℕ) → Mem c (extensions k (clusters given)) → (0 < value c) ↔ Kept r k c
+  value-above positive c m = value-kept r (sound .laws) k c (value c) (weightIn rows) fits pk (value-is c m) (go (candidate-of k (clusters given) up c m .1))
     where
-      go : (c ≡ 2 ^ k) ⊎ Mem (c % 2 ^ k) (clusters rows) → (0 < value c) ↔ New r 1 k c
-      go (inl e) = subst (λ (a : ℕ). (0 < value a) ↔ New r 1 k a) (sym e)
-          ((λ h. value-alone .least 1 (omega arith) .0 h .1), (λ h. value-alone .least 1 (omega arith) .1 (omega (arith, plain .laws .cap k 0, plain .caps k 0), h)))
-      go (inr n) =
-          let x = value-old c m (asc-mem 1 (2 ^ k) (clusters rows) up (c % 2 ^ k) n .0) in
-          ((λ h. x .least 1 (omega arith) .0 h .1), (λ h. x .least 1 (omega arith) .1 (positive (c % 2 ^ k) n, h)))
+      go : (c ≡ 2 ^ k) ⊎ Mem (c % 2 ^ k) (clusters given) → (c ≡ 2 ^ k) ⊎ (Split k (c % 2 ^ k) × (r .anew k (c % 2 ^ k) ≡ false → 0 < weightIn rows (c % 2 ^ k)))
+      go (inl e) = inl e
+      go (inr n) = inr (parent-split (c % 2 ^ k) n, λ e. positive (c % 2 ^ k) (elim (extended .exact (c % 2 ^ k) .0 n) [ inl s ↦ absurd (subst T e (s .1)) | inr l ↦ l ]))
 
-  -- THE FIRST PROMISE. Of a well-formed list: listed are exactly the candidates whose fours with the newcomer all score above zero
+  -- THE FIRST PROMISE. Of a well-formed list: listed are exactly the candidates whose fours with the newcomer all score above zero, and all fours of
+  -- what is weighed anew
   pub enlarged-exact : ((c : ℕ) → Listed c rows → 0 < weightIn rows c) → (c : ℕ)
-      → Listed c (enlarged trial most k rows) ↔ (Mem c (extensions k (clusters rows)) × New r 1 k c)
+      → Listed c (grownRows g k rows) ↔ (Mem c (extensions k (clusters (g .parents k rows))) × Kept r k c)
+  unfolding given
   enlarged-exact positive c = (
     (λ m.
-        let p = mem-keep-of (λ c. ltb 0 (value c)) c (extensions k (clusters rows)) (subst (Mem c) enlarged-clusters m) in
-        (p .0, value-new positive c (p .0) .0 (ltb→lt 0 (value c) (p .1)))),
+        let p = mem-keep-of (λ c. ltb 0 (value c)) c (extensions k (clusters given)) (subst (Mem c) enlarged-clusters m) in
+        (p .0, value-above positive c (p .0) .0 (ltb→lt 0 (value c) (p .1)))),
     (λ p. subst (Mem c) (sym enlarged-clusters)
-        (mem-keep (λ c. ltb 0 (value c)) c (extensions k (clusters rows)) (p .0) (lt→ltb 0 (value c) (value-new positive c (p .0) .1 (p .1))))),
+        (mem-keep (λ c. ltb 0 (value c)) c (extensions k (clusters given)) (p .0) (lt→ltb 0 (value c) (value-above positive c (p .0) .1 (p .1))))),
   )
 
+  -- and each weighs its value
+  pub enlarged-value : (c : ℕ) → Listed c (grownRows g k rows) → Value r k (weightIn rows) c (weightIn (grownRows g k rows) c)
+  enlarged-value c m =
+      subst (Value r k (weightIn rows) c) (sym (enlarged-weight c m))
+      (value-is c (mem-keep-of (λ c. ltb 0 (value c)) c (extensions k (clusters given)) (subst (Mem c) enlarged-clusters m) .0))
+
   -- it is well-formed again
-  pub enlarged-well : WellRows most k rows → WellRows most (suc k) (enlarged trial most k rows)
+  pub enlarged-well : WellRows (g .most) k rows → WellRows (g .most) (suc k) (grownRows g k rows)
   enlarged-well w =
       record {
         clean = subst (Clean (suc k)) (sym enlarged-clusters)
-            (well-grow r (plain .laws) k fits pk (λ c. ltb 0 (value c)) (clusters rows) (λ c m t. value-new positive c m .0 (ltb→lt 0 (value c) t)) (w .clean));
+            (well-grow r (sound .laws) k fits pk (λ c. ltb 0 (value c)) (clusters given) (λ c m t. value-above positive c m .0 (ltb→lt 0 (value c) t) .new) (extended .clean));
         weigh = λ x m.
-            let (c, n, p, e) = weights-keepOne value (extensions k (clusters rows)) x (subst (λ (l : List Row). Mem x (weights l)) enlarged-is m) in
+            let (c, n, p, e) = weights-keepOne value (extensions k (clusters given)) x (subst (λ (l : List Row). Mem x (weights l)) enlarged-is m) in
             (omega arith, omega (arith, low c n p));
       }
     where
       positive : (c : ℕ) → Listed c rows → 0 < weightIn rows c
       positive c m = w .weigh (weightIn rows c) (weight-listed rows c m) .0
 
-      low : (c : ℕ) → Mem c (extensions k (clusters rows)) → 0 < value c → value c ≤ most
-      low c m p = go (candidate-of k (clusters rows) up c m .1)
+      low : (c : ℕ) → Mem c (extensions k (clusters given)) → 0 < value c → value c ≤ g .most
+      low c m p = go (decLt 0 (c % 2 ^ k)) (r .anew k (c % 2 ^ k)) refl
         where
-          go : (c ≡ 2 ^ k) ⊎ Mem (c % 2 ^ k) (clusters rows) → value c ≤ most
-          go (inl e) = subst (λ (a : ℕ). 0 < value a → value a ≤ most) (sym e) (λ q. value-alone .least (value (2 ^ k)) q .0 (le-refl (value (2 ^ k))) .0) p
-          go (inr n) =
-              let x = value-old c m (asc-mem 1 (2 ^ k) (clusters rows) up (c % 2 ^ k) n .0) in
-              omega (arith, x .least (value c) p .0 (le-refl (value c)) .0, w .weigh (weightIn rows (c % 2 ^ k)) (weight-listed rows (c % 2 ^ k) n) .1)
+          here : Value r k (weightIn rows) c (value c)
+          here = value-is c m
+
+          listed : 0 < c % 2 ^ k → r .anew k (c % 2 ^ k) ≡ false → Listed (c % 2 ^ k) rows
+          listed q e =
+              elim (candidate-of k (clusters given) up c m .1) [
+                | inl z ↦ absurd (omega (arith, ap (λ (a : ℕ). a % 2 ^ k) z, mod-self (2 ^ k)))
+                | inr n ↦ elim (extended .exact (c % 2 ^ k) .0 n) [ inl s ↦ absurd (subst T e (s .1)) | inr l ↦ l ]
+              ]
+
+          go : Dec (0 < c % 2 ^ k) → (b : Bool) → r .anew k (c % 2 ^ k) ≡ b → value c ≤ g .most
+          go (no q) b e = omega (arith, here .alone (omega arith) .least (value c) p .0 (le-refl (value c)) .0, sound .caps (suc k) c)
+          go (yes q) true e = omega (arith, here .anew q (subst T (sym e) tt) .least (value c) p .0 (le-refl (value c)) .0, sound .caps (suc k) c)
+          go (yes q) false e =
+              omega (arith, here .old q e .least (value c) p .0 (le-refl (value c)) .0, w .weigh (weightIn rows (c % 2 ^ k)) (weight-listed rows (c % 2 ^ k) (listed q e)) .1)
 
   -- THE SECOND PROMISE: from the full answer for k taxa to that for k + 1
-  pub enlarged-full : FullRows r k rows → FullRows r (suc k) (enlarged trial most k rows)
+  pub enlarged-full : FullRows r k rows → FullRows r (suc k) (grownRows g k rows)
   enlarged-full f =
-      let g = weighed-grow r (plain .laws) k fits pk (weightIn rows) value (clusters rows) up
-      (parents-rows r k (clusters rows) (λ p s a. absurd (subst T (plain .never k p) a)) (f .full)) (λ p m e. f .weights p m) value-is in
+      let h = weighed-grow r (sound .laws) k fits pk (weightIn rows) value (clusters given) up parents
+      (λ p m e. f .weights p (elim (extended .exact p .0 m) [ inl s ↦ absurd (subst T e (s .1)) | inr l ↦ l ])) value-is in
       record {
-        full = subst (Full r (suc k)) (sym enlarged-clusters) (g .full);
-        weights = λ c m. subst (Weight r (suc k) c) (sym (enlarged-weight c m)) (g .weights c (subst (Mem c) enlarged-clusters m));
+        full = subst (Full r (suc k)) (sym enlarged-clusters) (h .full);
+        weights = λ c m. subst (Weight r (suc k) c) (sym (enlarged-weight c m)) (h .weights c (subst (Mem c) enlarged-clusters m));
       }
+    where
+      parents : (p : ℕ) → Mem p (clusters given) ↔ Parent r k p
+      parents p = (
+        (λ m. record {
+          split = parent-split p m;
+          held = elim (extended .exact p .0 m) [ inl s ↦ inl (s .1) | inr l ↦ inr (f .full .exact p .0 l .fours) ];
+        }),
+        (λ h. extended .exact p .1 (elim (h .held) [ inl a ↦ inl (h .split, a) | inr q ↦ inr (f .full .exact p .1 (record { split = h .split; fours = q })) ])),
+      )

@@ -10,7 +10,7 @@ use lib.Dec.{T, ltb, ltb→lt, lt→ltb}
 use lib.Pow.{pow-pos}
 use lib.ListN.{length, getD}
 use Rattle.statement.specs.Cluster.{bit, Out, Split, Conflict}
-use Rattle.statement.proofs.Rule.{Rule, Laws, Fours, New, Supported, Weight, Kept, Parent, Value}
+use Rattle.statement.proofs.Rule.{Rule, Laws, New, Supported, Weight, Kept, Parent, Value}
 use Rattle.statement.specs.Rows.{Ascending, Mem}
 use Rattle.statement.proofs.Answer.{Clean, Full, Weighed, keepIf, extensions}
 use Rattle.statement.proofs.Bits.{bit-zero, bit-mod}
@@ -18,7 +18,7 @@ use Rattle.statement.proofs.Grow.{grow, mod-cases, alone-low}
 use Rattle.statement.proofs.Weigh.{value-weight, value-kept, weight-supports}
 use Rattle.statement.proofs.Clash.{step-mod, no-conflict, empty-left, empty-right}
 use Rattle.statement.proofs.Laminar.{bound}
-use Rattle.statement.proofs.Listed.{asc-append, asc-map, asc-keep, asc-lower, asc-mem, mem-append, mem-map, mem-keep-of, mem-keep, asc-unique, mem-getD, asc-getD}
+use Rattle.statement.proofs.Listed.{asc-append, asc-map, asc-keep, asc-lower, asc-mem, clean-split, mem-append, mem-map, mem-keep-of, mem-keep, asc-unique, mem-getD, asc-getD}
 
 -- a candidate is the newcomer alone or has an old row for its remainder
 pub candidate-of : (k : ℕ) (rows : List ℕ) → Ascending 1 (2 ^ k) rows → (c : ℕ) → Mem c (extensions k rows) → (c < 2 ^ suc k) × ((c ≡ 2 ^ k) ⊎ Mem (c % 2 ^ k) rows)
@@ -127,13 +127,6 @@ module _ (r : Rule) (laws : Laws r) (k : ℕ) (fits : suc k ≤ r .taxa) (pk : 0
           go (inr m) (inl e) x = empty-right k (a % 2 ^ k) (rw (alone b e) at x)
           go (inr m) (inr n) x = w .clean (a % 2 ^ k) (b % 2 ^ k) m n x
 
--- where nothing that is not supported is weighed anew the parents are the rows
-pub parents-rows : (r : Rule) (k : ℕ) (rows : List ℕ) → ((p : ℕ) → Split k p → T (r .anew k p) → Fours r 1 k p) → Full r k rows → (p : ℕ) → Mem p rows ↔ Parent r k p
-parents-rows r k rows all f p = (
-  (λ m. let s = f .exact p .0 m in record { split = s .split; held = inr (s .fours) }),
-  (λ h. f .exact p .1 (record { split = h .split; fours = elim (h .held) [ inl a ↦ all p (h .split) a | inr g ↦ g ] })),
-)
-
 pub full-unique : (r : Rule) (k : ℕ) (xs ys : List ℕ) → Full r k xs → Full r k ys → xs ≡ ys
 full-unique r k xs ys f g =
     asc-unique 1 (2 ^ k) xs ys (f .up) (g .up) (λ c. ((λ m. g .exact c .1 (f .exact c .0 m)), (λ m. f .exact c .1 (g .exact c .0 m))))
@@ -159,8 +152,5 @@ full-well r laws k fits rows f =
 pub well-length : (k : ℕ) (rows : List ℕ) → 2 ≤ k → Clean k rows → length rows + 3 ≤ 2 * k
 well-length k rows two w =
     bound k (length rows) (λ i. getD rows i 0) two (asc-getD 1 (2 ^ k) rows (w .up))
-    (λ i l.
-    let m = mem-getD rows i l in
-    let b = asc-mem 1 (2 ^ k) rows (w .up) (getD rows i 0) m in
-    record { some = b .0; below = b .1; free = w .free (getD rows i 0) m })
+    (λ i l. clean-split k rows w (getD rows i 0) (mem-getD rows i l))
     (λ i j li lj. w .clean (getD rows i 0) (getD rows j 0) (mem-getD rows i li) (mem-getD rows j lj))

@@ -1,17 +1,31 @@
--- The two rules of document 01 as instances of the generic one: the matrix, and a rule by fours, of which the byte table is one. Assumes nothing.
-use Prim.Native.Nat.{ℕ, suc, _+_, min}
-use mathlib.Core.Bool.{Bool, false, cond}
+-- The rules as instances of the generic one: the matrix (document 02 §7), the matrix by the rule before that, and a rule by fours, of which the byte
+-- table is one. Assumes nothing.
+use Prim.Native.Nat.{ℕ, zero, suc, _+_, _^_, min}
+use mathlib.Core.Bool.{Bool, true, false, cond}
 use mathlib.Core.List.{List}
 use lib.Dec.{ltb, eqb}
 use lib.ListN.{getD}
 use lib.IntN.{ℤ, pos}
+use Rattle.statement.specs.Cluster.{Pair}
 use Rattle.statement.specs.Matrix.{score, weightLimit}
 use Rattle.statement.specs.Table.{choose, tableWeight}
 use Rattle.statement.proofs.Rule.{Rule, Distinct}
 
--- every four is asked, repeats too
+-- a test for trivial splits: the cluster is a single taxon, or all taxa but taxon 0
+unfoldable pub powBelow : ℕ → ℕ → Bool
+powBelow zero c = false
+powBelow (suc i) c = cond (eqb c (2 ^ i)) true (powBelow i c)
+
+unfoldable pub trivial : ℕ → ℕ → Bool
+trivial k c = cond (eqb (c + 2) (2 ^ k)) true (powBelow k c)
+
+-- the pairs that a group gives are asked, and what extends a trivial split is weighed anew
 abbrev pub matrixRule : ℕ → (ℕ → ℕ → ℕ) → Rule
-matrixRule n d = record { taxa = n; score = score d; asked = λ k c w x y z. Unit {0}; cap = λ k c. weightLimit; anew = λ k p. false }
+matrixRule n d = record { taxa = n; score = score d; asked = λ k c w x y z. Pair k c w x × Pair k c y z; cap = λ k c. weightLimit; anew = trivial }
+
+-- before §7 every four is asked, repeats too
+abbrev pub repeatRule : ℕ → (ℕ → ℕ → ℕ) → Rule
+repeatRule n d = record { taxa = n; score = score d; asked = λ k c w x y z. Unit {0}; cap = λ k c. weightLimit; anew = λ k p. false }
 
 -- Of four different taxa, `rank` says how many are under t, and the byte is the rank of the least one's partner.
 abbrev pub less : ℕ → ℕ → ℕ

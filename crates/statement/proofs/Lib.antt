@@ -6,6 +6,14 @@ pub mod Instances
 pub mod Answer
 pub mod Matrix
 pub mod Grow
+pub mod Single
+pub mod PairRule
+pub mod Filled
+pub mod Count
+pub mod Pairs
+pub mod SameWeights
+pub mod Keeps
+pub mod Zeros
 pub mod Clash
 pub mod Tally
 pub mod Laminar

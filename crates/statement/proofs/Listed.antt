@@ -1,5 +1,5 @@
 -- Ascending lists: parts, members, and that the members settle the list. Assumes nothing.
-use Prim.Native.Nat.{ℕ, zero, suc, _+_, _≤_, _<_}
+use Prim.Native.Nat.{ℕ, zero, suc, _+_, _^_, _≤_, _<_}
 use native.Mathlib.Omega.{arith}
 use native.Mathlib.Nat.{le-antisymm}
 use mathlib.Core.Path.{_≡_, refl, sym, _∙_, ap, ap₂, subst}
@@ -8,8 +8,9 @@ use mathlib.Core.Bool.{Bool, true, false, cond}
 use mathlib.Core.List.{List, [], _∷_, _++_, map}
 use lib.Dec.{T}
 use lib.ListN.{length, getD}
+use Rattle.statement.specs.Cluster.{Split}
 use Rattle.statement.specs.Rows.{Ascending, Mem}
-use Rattle.statement.proofs.Answer.{keepIf}
+use Rattle.statement.proofs.Answer.{Clean, keepIf}
 
 pub asc-le : (lo hi : ℕ) (xs : List ℕ) → Ascending lo hi xs → lo ≤ hi
 asc-le lo hi [] h = h
@@ -39,6 +40,10 @@ asc-keep p lo hi (x ∷ xs) h = go (p x) (asc-keep p (suc x) hi xs (h .1))
 pub asc-mem : (lo hi : ℕ) (xs : List ℕ) → Ascending lo hi xs → (c : ℕ) → Mem c xs → (lo ≤ c) × (c < hi)
 asc-mem lo hi (x ∷ xs) h c (inl e) = (omega (arith, h .0), omega (arith, asc-le (suc x) hi xs (h .1)))
 asc-mem lo hi (x ∷ xs) h c (inr m) = let p = asc-mem (suc x) hi xs (h .1) c m in (omega (arith, h .0), p .1)
+
+-- the clusters of a list are splits
+pub clean-split : (k : ℕ) (cs : List ℕ) → Clean k cs → (c : ℕ) → Mem c cs → Split k c
+clean-split k cs w c m = let b = asc-mem 1 (2 ^ k) cs (w .up) c m in record { some = b .0; below = b .1; free = w .free c m }
 
 pub mem-append : (c : ℕ) (xs ys : List ℕ) → Mem c (xs ++ ys) ↔ (Mem c xs ⊎ Mem c ys)
 mem-append c xs ys = (there xs, back xs)

@@ -10,7 +10,7 @@ use mathlib.Core.Logic.{_↔_}
 use borrow.Author.Tests.{ltb-true, ltb-false}
 use Rattle.statement.specs.Matrix.{score}
 use Rattle.statement.proofs.Rule.{Laws}
-use Rattle.statement.proofs.Instances.{matrixRule}
+use Rattle.statement.proofs.Instances.{repeatRule}
 
 -- an order on a difference of naturals is one in ℕ
 pub le-sub : (t a b : ℕ) → t + b ≤ a → pos t ≤ℤ subℕ a b
@@ -53,8 +53,8 @@ module _ (n : ℕ) (d : ℕ → ℕ → ℕ) (s : (i j : ℕ) → i < n → j < 
 pub score-one : (d : ℕ → ℕ → ℕ) (w x y z : ℕ) → d x y ≡ d y x → pos 1 ≤ℤ score d w x y z → pos 1 ≤ℤ score d w y x z → ⊥
 score-one d w x y z e f g = omega (arith, of-score d 1 w x y z f, of-score d 1 w y x z g)
 
-pub matrix-laws : (n : ℕ) (d : ℕ → ℕ → ℕ) → ((i j : ℕ) → i < n → j < n → d i j ≡ d j i) → Laws (matrixRule n d)
-matrix-laws n d s =
+pub repeat-laws : (n : ℕ) (d : ℕ → ℕ → ℕ) → ((i j : ℕ) → i < n → j < n → d i j ≡ d j i) → Laws (repeatRule n d)
+repeat-laws n d s =
     record {
       swap = λ k c w x y z lw lx ly lz a. (tt, score-swap n d s w x y z lw lx ly lz);
       flip = λ k c w x y z lw lx ly lz a. (tt, score-flip n d s w x y z lw lx ly lz);

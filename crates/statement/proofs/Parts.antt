@@ -11,7 +11,7 @@ use borrow.Author.Tests.{eq-eqb, ne-eqb, eqb-true, eqb-false}
 use Rattle.statement.specs.Cluster.{bit}
 use Rattle.statement.specs.Matrix.{score}
 use Rattle.statement.specs.Table.{stands, tableWeight}
-use Rattle.statement.specs.Growing.{lesser, partsAs, overFours, above}
+use Rattle.statement.specs.Growing.{lesser, partsAs, overFours, above, pairs}
 use Rattle.statement.proofs.Rule.{Distinct}
 use Rattle.statement.proofs.Lesser.{lesser-same, lesser-from, SoFar, lesser-on}
 
@@ -19,9 +19,13 @@ use Rattle.statement.proofs.Lesser.{lesser-same, lesser-from, SoFar, le
 abbrev pub Says : Type 0
 Says = ℕ → ℕ → ℕ → ℕ → ℕ
 
--- on a matrix the score of ax|yz; on a table only four different taxa count
-unfoldable pub matrixSays : (ℕ → ℕ → ℕ) → ℕ → Says
-matrixSays d a w x y z = above (score d a x y z)
+-- on a matrix the score of ax|yz, where both are pairs of their group in the split c of n taxa; before §7 always; on a table only four different taxa
+-- count
+unfoldable pub pairSays : (ℕ → ℕ → ℕ) → ℕ → ℕ → ℕ → Says
+pairSays d n c a w x y z = cond (pairs n c a x && pairs n c y z) (above (score d a x y z)) w
+
+unfoldable pub repeatSays : (ℕ → ℕ → ℕ) → ℕ → Says
+repeatSays d a w x y z = above (score d a x y z)
 
 unfoldable pub tableSays : List ℕ → ℕ → Says
 tableSays bytes a w x y z = cond (eqb a x || eqb y z) w (cond (stands bytes a x y z) tableWeight 0)
@@ -131,9 +135,9 @@ either-from : (p : Bool) (s t u v b : ℕ) → min s b ≡ min t b → min u b �
 either-from true s t u v b e f = e
 either-from false s t u v b e f = f
 
-pub matrix-steady : (d : ℕ → ℕ → ℕ) (a : ℕ) → Steady (matrixSays d a)
-unfolding matrixSays
-matrix-steady d a w b x y z h = refl
+pub pair-steady : (d : ℕ → ℕ → ℕ) (n c a : ℕ) → Steady (pairSays d n c a)
+unfolding pairSays
+pair-steady d n c a w b x y z h = either-from (pairs n c a x && pairs n c y z) _ _ b w b refl (omega arith)
 
 pub table-steady : (bytes : List ℕ) (a : ℕ) → Steady (tableSays bytes a)
 unfolding tableSays

@@ -13,12 +13,12 @@ use lib.Signed.{_≤ℤ_}
 use borrow.Author.Tests.{eqb-true, eqb-false}
 use Rattle.statement.specs.Cluster.{bit}
 use Rattle.statement.specs.Table.{Pairing, stands, tableWeight}
-use Rattle.statement.specs.Growing.{lesser, overFours, above, matrixTrial, tableTrial}
+use Rattle.statement.specs.Growing.{lesser, overFours, above, repeatTrial, tableTrial}
 use Rattle.statement.proofs.Rule.{Rule, Distinct, Ok, New, Trial}
-use Rattle.statement.proofs.Instances.{matrixRule, placed, code, tableAt, tableRule}
+use Rattle.statement.proofs.Instances.{repeatRule, placed, code, tableAt, tableRule}
 use Rattle.statement.proofs.Pairing.{pairing-is}
 use Rattle.statement.proofs.Lesser.{lesser-of, of-lesser}
-use Rattle.statement.proofs.Parts.{Says, matrixSays, tableSays, fourOf, withXY, withX, over-parts, Parted, parted-distinct, asked}
+use Rattle.statement.proofs.Parts.{Says, repeatSays, tableSays, fourOf, withXY, withX, over-parts, Parted, parted-distinct, asked}
 
 -- what is at most the weight, and at most what a four says where it is asked
 unasked : (f : Says) (a c w x y z t : ℕ) → t ≤ w → (Parted c a x y z → t ≤ f w x y z) → t ≤ fourOf f a c w x y z
@@ -85,10 +85,10 @@ above-is t (pos n) pt = ((λ h. record { le = le→leb t n h }), (λ h. leb→le
 above-is t (negsuc n) pt = ((λ h. absurd (omega arith)), (λ h. absurd (h .le)))
 
 -- ON A MATRIX
-pub matrix-trial : (n : ℕ) (d : ℕ → ℕ → ℕ) (k a c w t : ℕ) → 1 ≤ t → (t ≤ matrixTrial d k a c w) ↔ ((t ≤ w) × Anchored (matrixRule n d) t k a c)
-unfolding matrixTrial matrixSays
-matrix-trial n d k a c w t pt =
-    over-fours (matrixRule n d) (matrixSays d a) k a c w (λ s x y z ps l lx ly lz p.
+pub repeat-trial : (n : ℕ) (d : ℕ → ℕ → ℕ) (k a c w t : ℕ) → 1 ≤ t → (t ≤ repeatTrial d k a c w) ↔ ((t ≤ w) × Anchored (repeatRule n d) t k a c)
+unfolding repeatTrial repeatSays
+repeat-trial n d k a c w t pt =
+    over-fours (repeatRule n d) (repeatSays d a) k a c w (λ s x y z ps l lx ly lz p.
     let e = above-is s _ ps in ((λ h asked. e .0 h), (λ ok. e .1 (ok tt)))) t pt
 
 -- ON A TABLE: a four of different taxa stands in it, or scores nothing

@@ -9,9 +9,10 @@ use lib.Dec.{T, leb→le}
 use lib.IntN.{ℤ, pos}
 use lib.Signed.{leZ}
 use borrow.Author.Tests.{ne-eqb, eq-eqb}
-use Rattle.statement.specs.Matrix.{distance, MatrixWeight}
+use Rattle.statement.specs.Cluster.{Across}
+use Rattle.statement.specs.Matrix.{distance, Asked, LeastScore}
 use Rattle.statement.specs.Rows.{Row, row, clusters, Mem, weightIn, Ascending, FullAnswer}
-use Rattle.statement.specs.Growing.{MatrixAnswer, TableAnswer}
+use Rattle.statement.specs.Growing.{MatrixAnswer, TableAnswer, RepeatAnswer}
 use Rattle.statement.proofs.Listed.{asc-unique}
 
 -- ascending rows are their clusters with their weights
@@ -38,11 +39,18 @@ answer-unique Supported Weighs k one xs ys f g =
     (λ c m. ap (row c) (one c (weightIn xs c) (weightIn ys c) (f .weigh c m) (g .weigh c (subst (Mem c) same m))))
     ∙ ap (map (λ c. row c (weightIn ys c))) same ∙ sym (rows-by-weight 1 (2 ^ k) ys ys (g .up) (λ c l. refl))
 
-pub matrix-unique : (n : ℕ) (entries : List ℕ) (k : ℕ) (xs ys : List Row) → MatrixAnswer n entries k xs → MatrixAnswer n entries k ys → xs ≡ ys
-matrix-unique n entries k = answer-unique _ _ k (λ c v w x y. le-antisymm (low c v w x y) (low c w v y x))
+-- two least scores of the same fours
+least-one : (d : ℕ → ℕ → ℕ) (Four : ℕ → ℕ → ℕ → ℕ → Type 0) (v w : ℕ) → LeastScore d Four (pos v) → LeastScore d Four (pos w) → v ≡ w
+least-one d Four v w x y = le-antisymm (low v w x y) (low w v y x)
   where
-    low : (c v w : ℕ) → MatrixWeight (distance n entries) k c (pos v) → MatrixWeight (distance n entries) k c (pos w) → v ≤ w
-    low c v w x y = let (a, a′, b, b′, z, e) = y .reached in leb→le v w (subst (λ (s : ℤ). T (leZ (pos v) s)) e (x .least a a′ b b′ z .le))
+    low : (v w : ℕ) → LeastScore d Four (pos v) → LeastScore d Four (pos w) → v ≤ w
+    low v w x y = let (a, a′, b, b′, z, e) = y .reached in leb→le v w (subst (λ (s : ℤ). T (leZ (pos v) s)) e (x .least a a′ b b′ z .le))
+
+pub matrix-unique : (n : ℕ) (entries : List ℕ) (k : ℕ) (xs ys : List Row) → MatrixAnswer n entries k xs → MatrixAnswer n entries k ys → xs ≡ ys
+matrix-unique n entries k = answer-unique _ _ k (λ c v w x y. least-one (distance n entries) (Asked k c) v w x y)
+
+pub repeat-unique : (n : ℕ) (entries : List ℕ) (k : ℕ) (xs ys : List Row) → RepeatAnswer n entries k xs → RepeatAnswer n entries k ys → xs ≡ ys
+repeat-unique n entries k = answer-unique _ _ k (λ c v w x y. least-one (distance n entries) (Across k c) v w x y)
 
 pub table-unique : (bytes : List ℕ) (k : ℕ) (xs ys : List Row) → TableAnswer bytes k xs → TableAnswer bytes k ys → xs ≡ ys
 table-unique bytes k = answer-unique _ _ k (λ c v w x y. x ∙ sym y)

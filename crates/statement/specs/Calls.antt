@@ -14,7 +14,7 @@ use Rattle.statement.specs.declared.Step.the-variants as step
 use Rattle.statement.specs.Matrix.{distance, weightLimit}
 use Rattle.statement.specs.Table.{tableWeight}
 use Rattle.statement.specs.Rows.{rowsOf, listOf}
-use Rattle.statement.specs.Growing.{matrixTrial, tableTrial, grown, wholeRun}
+use Rattle.statement.specs.Growing.{byMatrix, byTable, grown, wholeRun}
 use Rattle.statement.specs.Tree.{treeOf, rowsOfTree, pathSums}
 use Rattle.statement.specs.Bytes.{fromBytes, treeBody, treeIn, treeLength}
 use Rattle.statement.specs.Refusals.{outcomeOf, listOff, matrixChecks, tableChecks, treeChecks, outputChecks}
@@ -37,12 +37,12 @@ refusedRun o = record { outcome = o; list = emptyList 0; trials = 0 }
 unfoldable pub runMatrix : ℕ → List ℕ → Growth
 runMatrix n entries =
     let o = outcomeOf (matrixChecks n entries) in
-    unlessRefused o (refusedRun o) (wholeRun (matrixTrial (distance n entries)) weightLimit n)
+    unlessRefused o (refusedRun o) (wholeRun (byMatrix (distance n entries)) n)
 
 unfoldable pub runTable : ℕ → List ℕ → Growth
 runTable n bytes =
     let o = outcomeOf (tableChecks n bytes) in
-    unlessRefused o (refusedRun o) (wholeRun (tableTrial bytes) tableWeight n)
+    unlessRefused o (refusedRun o) (wholeRun (byTable bytes) n)
 
 -- GROWTH with an allowance. A refused growth hands back the given list and 0 trials
 abbrev pub refusedGrowth : Outcome → Splits → Growth
@@ -51,12 +51,12 @@ refusedGrowth o s = record { outcome = o; list = s; trials = 0 }
 unfoldable pub growMatrix : ℕ → List ℕ → Splits → ℕ → Growth
 growMatrix n entries s allowance =
     let o = outcomeOf (matrixChecks n entries ++ (listOff weightLimit n s ∷ [])) in
-    unlessRefused o (refusedGrowth o s) (grown (matrixTrial (distance n entries)) weightLimit (n - s .taxa) allowance 0 s)
+    unlessRefused o (refusedGrowth o s) (grown (byMatrix (distance n entries)) (n - s .taxa) allowance 0 s)
 
 unfoldable pub growTable : ℕ → List ℕ → Splits → ℕ → Growth
 growTable n bytes s allowance =
     let o = outcomeOf (tableChecks n bytes ++ (listOff tableWeight n s ∷ [])) in
-    unlessRefused o (refusedGrowth o s) (grown (tableTrial bytes) tableWeight (n - s .taxa) allowance 0 s)
+    unlessRefused o (refusedGrowth o s) (grown (byTable bytes) (n - s .taxa) allowance 0 s)
 
 -- THE TREE of a list, written into a lent slice: the outcome, and what the slice then holds
 unfoldable pub writeTree : ℕ → Splits → List ℕ → Outcome

@@ -1,5 +1,5 @@
 -- Taxa are the numbers 0 to n - 1. A group of taxa is a number too: bit i says whether taxon i is in it.
--- Document 01, "Scores and splits": Row, Conflict.
+-- Document 01, "Scores and splits": Row, Conflict. Document 02 §7: pairs of a group.
 use Prim.Native.Nat.{ℕ, zero, suc, _+_, _/_, _%_, _^_, _<_}
 use mathlib.Core.Path.{_≡_}
 use mathlib.Core.Bool.{Bool, cond}
@@ -31,6 +31,18 @@ pub record Conflict (k a b : ℕ) : Type 0 where
   pub io : (i : ℕ) × (i < k) × In a i × Out b i
   pub oi : (i : ℕ) × (i < k) × Out a i × In b i
   pub oo : (i : ℕ) × (i < k) × Out a i × Out b i
+
+-- u is the only taxon of its group, in the split c of the first k taxa
+pub record Single (k c u : ℕ) : Type 0 where
+  pub only : (i : ℕ) → i < k → bit c i ≡ bit c u → i ≡ u
+
+-- a trivial split: one of its groups is a single taxon
+abbrev pub Trivial : ℕ → ℕ → Type 0
+Trivial k c = (u : ℕ) × (u < k) × Single k c u
+
+-- a pair that a group gives: two different taxa, or twice a taxon that is the only one of its group
+abbrev pub Pair : ℕ → ℕ → ℕ → ℕ → Type 0
+Pair k c u u′ = u ≡ u′ → Single k c u
 
 -- u and u′ are in the group of taxon 0, v and v′ in the cluster: a four that a rule may ask about
 pub record Across (k c u u′ v v′ : ℕ) : Type 0 where

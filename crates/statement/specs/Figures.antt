@@ -1,4 +1,5 @@
--- Document 01, "Figures to check against": the items marked P, as one table. What the definitions say, beside what the document says.
+-- Document 01, "Figures to check against": the items marked P, as one table, two of them as document 02 §7 changes them. What the definitions say, beside
+-- what the documents say.
 use Prim.Native.Nat.{ℕ}
 use mathlib.Core.Path.{_≡_}
 use mathlib.Core.List.{List, [], _∷_}
@@ -78,11 +79,13 @@ figures =
     -- n = 2, distance 0: no row; distance 1: 2 2
     ∷ record { Of = List Row; got = rowsIn (runMatrix 2 (two 0)); stated = [] }
     ∷ record { Of = List Row; got = rowsIn (runMatrix 2 (two 1)); stated = row 2 2 ∷ [] }
-    -- n = 3, d01 1, d02 1, d12 3: rows 2 2, 4 2 only
-    ∷ record { Of = List Row; got = rowsIn (runMatrix 3 (three 1 1 3)); stated = row 2 2 ∷ row 4 2 ∷ [] }
-    -- n = 4, d01, d02, d03 all 1, d12 10, d13 10, d23 3: cluster 12 is absent, since 00|23 scores -1
-    ∷ record { Of = ℕ; got = weightOf (runMatrix 4 (four 1 1 1 10 10 3)) 12; stated = 0 }
+    -- n = 3, d01 1, d02 1, d12 3: rows 2 3, 4 3 only (document 02 §7)
+    ∷ record { Of = List Row; got = rowsIn (runMatrix 3 (three 1 1 3)); stated = row 2 3 ∷ row 4 3 ∷ [] }
+    -- n = 4, d01, d02, d03 all 1, d12 10, d13 10, d23 3: cluster 12 weighs 7 (document 02 §7), though 00|23 scores -1
+    ∷ record { Of = ℕ; got = weightOf (runMatrix 4 (four 1 1 1 10 10 3)) 12; stated = 7 }
     ∷ record { Of = ℤ; got = score (distance 4 (four 1 1 1 10 10 3)) 0 0 2 3; stated = negsuc 0 }
+    -- its whole list: taxon 0 by itself (14) is not supported, and 12 weighs more than 4 and 8
+    ∷ record { Of = List Row; got = rowsIn (runMatrix 4 (four 1 1 1 10 10 3)); stated = row 2 10 ∷ row 4 3 ∷ row 8 3 ∷ row 12 7 ∷ [] }
     -- table, n = 5, bytes 1 1 1 1 1; first byte 0 instead: 28 goes, the rest stay
     ∷ record { Of = List ℕ; got = clustersIn (runTable 5 (1 ∷ 1 ∷ 1 ∷ 1 ∷ 1 ∷ [])); stated = 2 ∷ 4 ∷ 8 ∷ 16 ∷ 24 ∷ 28 ∷ 30 ∷ [] }
     ∷ record { Of = List ℕ; got = clustersIn (runTable 5 (0 ∷ 1 ∷ 1 ∷ 1 ∷ 1 ∷ [])); stated = 2 ∷ 4 ∷ 8 ∷ 16 ∷ 24 ∷ 30 ∷ [] }

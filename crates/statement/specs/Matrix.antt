@@ -1,11 +1,11 @@
--- Document 01, "Scores and splits": Matrix, Score, Matrix rule.
+-- Document 01, "Scores and splits": Matrix, Score. Document 02 §7: Matrix rule.
 use Prim.Native.Nat.{ℕ, _+_, _*_, _≤_, _<_, min}
 use mathlib.Core.Path.{_≡_}
 use mathlib.Core.List.{List}
 use lib.ListN.{length, getD}
 use lib.IntN.{ℤ, pos, subℕ}
 use lib.Signed.{_≤ℤ_, _<ℤ_}
-use Rattle.statement.specs.Cluster.{Split, Across}
+use Rattle.statement.specs.Cluster.{Split, Across, Pair}
 
 -- Matrix: n by n, row by row
 abbrev pub distance : ℕ → List ℕ → ℕ → ℕ → ℕ
@@ -32,12 +32,36 @@ weightLimit = 2000000
 abbrev pub score : (ℕ → ℕ → ℕ) → ℕ → ℕ → ℕ → ℕ → ℤ
 score d w x y z = subℕ (min (d w y + d x z) (d w z + d x y)) (d w x + d y z)
 
--- Matrix rule: the weight of a split U|V is the least score of uu'|vv' over u, u' in U and v, v' in V; u may equal u' and v may equal v'
-pub record MatrixWeight (d : ℕ → ℕ → ℕ) (k c : ℕ) (w : ℤ) : Type 0 where
-  pub least : (u u′ v v′ : ℕ) → Across k c u u′ v v′ → w ≤ℤ score d u u′ v v′
-  pub reached : (u u′ v v′ : ℕ) × Across k c u u′ v v′ × (score d u u′ v v′ ≡ w)
+-- Matrix rule (document 02 §7): a group of two or more gives only pairs of different taxa, a group of one its taxon twice. uu'|vv' is a four of the
+-- split where u, u' is a pair of taxon 0's group and v, v' one of the cluster
+pub record Asked (k c u u′ v v′ : ℕ) : Type 0 where
+  pub across : Across k c u u′ v v′
+  pub pair : Pair k c u u′
+  pub pair′ : Pair k c v v′
 
--- a split is supported when every such score is above zero
-pub record MatrixSupported (d : ℕ → ℕ → ℕ) (k c : ℕ) : Type 0 where
+-- the least score of some fours; and a split with every score of some fours above zero
+pub record LeastScore (d : ℕ → ℕ → ℕ) (Four : ℕ → ℕ → ℕ → ℕ → Type 0) (w : ℤ) : Type 0 where
+  pub least : (u u′ v v′ : ℕ) → Four u u′ v v′ → w ≤ℤ score d u u′ v v′
+  pub reached : (u u′ v v′ : ℕ) × Four u u′ v v′ × (score d u u′ v v′ ≡ w)
+
+pub record AllAbove (d : ℕ → ℕ → ℕ) (Four : ℕ → ℕ → ℕ → ℕ → Type 0) (k c : ℕ) : Type 0 where
   pub split : Split k c
-  pub fours : (u u′ v v′ : ℕ) → Across k c u u′ v v′ → pos 0 <ℤ score d u u′ v v′
+  pub fours : (u u′ v v′ : ℕ) → Four u u′ v v′ → pos 0 <ℤ score d u u′ v v′
+
+-- the weight of a split is the least score of its fours, and a split is supported when every such score is above zero
+abbrev pub MatrixWeight : (ℕ → ℕ → ℕ) → ℕ → ℕ → ℤ → Type 0
+MatrixWeight d k c w = LeastScore d (Asked k c) w
+
+abbrev pub MatrixSupported : (ℕ → ℕ → ℕ) → ℕ → ℕ → Type 0
+MatrixSupported d k c = AllAbove d (Asked k c) k c
+
+-- THE RULE BEFORE §7: u may equal u' and v may equal v' in any group. It is the same for matrices that keep the triangle rule
+abbrev pub RepeatWeight : (ℕ → ℕ → ℕ) → ℕ → ℕ → ℤ → Type 0
+RepeatWeight d k c w = LeastScore d (Across k c) w
+
+abbrev pub RepeatSupported : (ℕ → ℕ → ℕ) → ℕ → ℕ → Type 0
+RepeatSupported d k c = AllAbove d (Across k c) k c
+
+-- the triangle rule: no way round by a third taxon is shorter
+abbrev pub Triangle : ℕ → (ℕ → ℕ → ℕ) → Type 0
+Triangle n d = (i j l : ℕ) → i < n → j < n → l < n → d i j ≤ d i l + d l j

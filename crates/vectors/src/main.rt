@@ -1,5 +1,5 @@
 // Records, sound and damaged, through the main job's own path (v); files of records, walked (w); typed numbers, packed (t); records in plain words (s).
-// The files in data/ and the expected output are made by tests/make_vectors.py from document 01 alone.
+// The files in data/ and the expected output are made by tests/make_vectors.py from the documents alone.
 use statement::Step;
 
 // What a walker says at a place; the place behind it, or 65,536 where it stops.
@@ -69,7 +69,7 @@ fn files(asked: u8, count: u8) {
 }
 
 fn main() {
-    files(b'v', 32);
+    files(b'v', 39);
     files(b'w', 3);
     files(b't', 19);
     files(b's', 20);

@@ -15,6 +15,9 @@ abbrev μ-loop : tie.MeasureT-loop
 loop-holds : tie.Need-loop-holds Inv-loop μ-loop
 loop-holds c = search needs
 
+weight-of-requires : tie.Need-weight-of-requires Inv-loop μ-loop
+weight-of-requires c κs = search needs
+
 row-after-requires : tie.Need-row-after-requires Inv-loop μ-loop
 row-after-requires c κs = search needs
 
@@ -40,6 +43,7 @@ is-answer-spec =
     Inv-loop
     μ-loop
     loop-holds
+    weight-of-requires
     row-after-requires
     add-c
     loop-less

@@ -5,10 +5,10 @@ use Rattle.brute.proofs.weight_above.Statement.{statement}
 use Rattle.brute.proofs.weight_above.Tie as tie
 
 abbrev Inv-loop : tie.InvT-loop
-Inv-loop n d c least₀ q₀ least q = Unit {0}
+Inv-loop n d c t start least₀ q₀ least q = Unit {0}
 
 abbrev μ-loop : tie.MeasureT-loop
-μ-loop n d c least₀ q₀ least q = 2401 - q
+μ-loop n d c t start least₀ q₀ least q = 2401 - q
 
 loop-holds : tie.Need-loop-holds Inv-loop μ-loop
 loop-holds c = search needs

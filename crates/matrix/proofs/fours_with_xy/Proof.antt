@@ -4,15 +4,15 @@ use native.Mathlib.Omega.{arith}
 use borrow.Author.Needs.{needs}
 use Rattle.statement.specs.Matrix.{distance}
 use Rattle.statement.proofs.Lesser.{SoFar, lesser-begun, lesser-ended}
-use Rattle.statement.proofs.Parts.{matrixSays, fourOf, withXY, on-side, off-side, y-off, matrix-steady, z-turn}
+use Rattle.statement.proofs.Parts.{pairSays, fourOf, withXY, on-side, off-side, y-off, pair-steady, z-turn}
 use Rattle.matrix.proofs.fours_with_xy.Statement.{statement}
 use Rattle.matrix.proofs.fours_with_xy.Tie as tie
 
 abbrev Inv-loop : tie.InvT-loop
-Inv-loop n entries k a c w x y ax ay xy best₀ z₀ best z = SoFar w (fourOf (matrixSays (distance n entries) a) a c w x y) k z best
+Inv-loop n entries k a c w x y ax ay xy single best₀ z₀ best z = SoFar w (fourOf (pairSays (distance n entries) k c a) a c w x y) k z best
 
 abbrev μ-loop : tie.MeasureT-loop
-μ-loop n entries k a c w x y ax ay xy best₀ z₀ best z = k - z
+μ-loop n entries k a c w x y ax ay xy single best₀ z₀ best z = k - z
 
 same-side-requires : tie.Need-same-side-requires Inv-loop μ-loop
 same-side-requires c κs = search needs
@@ -29,12 +29,16 @@ between-requires-2 c κs = search needs
 between-requires-3 : tie.Need-between-requires-3 Inv-loop μ-loop
 between-requires-3 c κs = search needs
 
+is-alone-requires : tie.Need-is-alone-requires Inv-loop μ-loop
+is-alone-requires c κs = search needs
+
 loop-holds : tie.Need-loop-holds Inv-loop μ-loop
 loop-holds c = lesser-begun
 
 four-requires : tie.Need-four-requires Inv-loop μ-loop
 four-requires c κs =
-    let xy = c .before .before in
+    let alone = c .before .before in
+    let xy = alone .before in
     let ay = xy .before in
     let ax = ay .before in
     let other = ax .before in
@@ -42,7 +46,7 @@ four-requires c κs =
       search needs,
       (
         (ax .between .ensures, ay .between2 .ensures, xy .between3 .ensures),
-        (s .pre .1, off-side (s .args .c) (s .args .a) (s .args .y) (other .before .same-side .ensures) (other .if1 .left)),
+        (s .pre .1 .0, off-side (s .args .c) (s .args .a) (s .args .y) (other .before .same-side .ensures) (other .if1 .left), s .pre .1 .1, alone .is-alone .ensures),
       ),
     )
 
@@ -53,7 +57,7 @@ loop-less : tie.Need-loop-less Inv-loop μ-loop
 loop-less c = search needs
 
 loop-again : tie.Need-loop-again Inv-loop μ-loop
-loop-again c = z-turn _ (matrix-steady _ _) _ _ _ _ _ _ (c .before .before .loop .inv) (omega arith) (c .four .ensures)
+loop-again c = z-turn _ (pair-steady _ _ _ _) _ _ _ _ _ _ (c .before .before .loop .inv) (omega arith) (c .four .ensures)
 
 returns-2 : tie.Need-returns-2 Inv-loop μ-loop
 unfolding withXY
@@ -70,6 +74,7 @@ fours-with-xy-spec =
     between-requires
     between-requires-2
     between-requires-3
+    is-alone-requires
     loop-holds
     four-requires
     add-z

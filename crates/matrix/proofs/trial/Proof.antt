@@ -1,41 +1,23 @@
--- `matrix::trial` meets its contract: the loop has lowered the weight by the fours with an x passed. Assumes nothing.
-use Prim.Native.Nat.{_-_}
-use mathlib.Core.Path.{_∙_}
-use native.Mathlib.Omega.{arith}
+-- `matrix::trial` meets its contract: it looks at the fours of the taxon that `whose` names. Assumes nothing.
+use Prim.Native.Nat.{ℕ}
+use mathlib.Core.Path.{_∙_, ap}
 use borrow.Author.Needs.{needs}
 use Rattle.statement.specs.Matrix.{distance}
-use Rattle.statement.specs.Growing.{matrixTrial}
-use Rattle.statement.proofs.Lesser.{SoFar, lesser-begun, lesser-ended}
-use Rattle.statement.proofs.Parts.{matrixSays, withX, over-parts, matrix-steady, x-turn}
+use Rattle.statement.specs.Growing.{pairTrial, matrixTrial}
 use Rattle.matrix.proofs.trial.Statement.{statement}
 use Rattle.matrix.proofs.trial.Tie as tie
 
-abbrev Inv-loop : tie.InvT-loop
-Inv-loop n entries k a c w best₀ x₀ best x = SoFar w (withX (matrixSays (distance n entries) a) k a c w) k x best
+whose-requires : tie.Need-whose-requires
+whose-requires c κs = search needs
 
-abbrev μ-loop : tie.MeasureT-loop
-μ-loop n entries k a c w best₀ x₀ best x = k - x
+pair-trial-requires : tie.Need-pair-trial-requires
+pair-trial-requires c κs = search needs
 
-loop-holds : tie.Need-loop-holds Inv-loop μ-loop
-loop-holds c = lesser-begun
-
-fours-with-x-requires : tie.Need-fours-with-x-requires Inv-loop μ-loop
-fours-with-x-requires c κs = search needs
-
-add-x : tie.Need-add-x Inv-loop μ-loop
-add-x c = search needs
-
-loop-less : tie.Need-loop-less Inv-loop μ-loop
-loop-less c = search needs
-
-loop-again : tie.Need-loop-again Inv-loop μ-loop
-loop-again c = x-turn _ (matrix-steady _ _) _ _ _ _ _ (c .before .before .loop .inv) (omega arith) (c .fours-with-x .ensures)
-
-returns : tie.Need-returns Inv-loop μ-loop
-unfolding matrixTrial matrixSays
-returns c = lesser-ended (c .before .loop .inv) (c .loop-test .left) ∙ over-parts _ _ _ _ _
+returns : tie.Need-returns
+unfolding matrixTrial
+returns c =
+    let a = c .before .before .before .args in
+    c .pair-trial .ensures ∙ ap (λ (b : ℕ). pairTrial (distance (a .n) (a .entries .now)) (a .k) b (a .c) (a .w)) (c .before .whose .ensures .0)
 
 pub trial-spec : {M : Type 1} → statement M
-trial-spec =
-    tie.close
-    (tie.spec Inv-loop μ-loop loop-holds fours-with-x-requires add-x loop-less loop-again returns)
+trial-spec = tie.close (tie.spec whose-requires pair-trial-requires returns)
