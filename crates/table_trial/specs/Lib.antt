@@ -1,2 +1,2 @@
 -- The root of the specs.
-pub mod Four
+pub mod Sets
