@@ -1,4 +1,4 @@
--- `words::words_of` meets its contract, a word at a time. Assumes nothing.
+-- `words::read_words` meets its contract, a word at a time. Assumes nothing.
 use Prim.Native.Nat.{_-_, _≤_}
 use native.Mathlib.Omega.{arith}
 use mathlib.Core.Path.{_≡_, refl}
@@ -6,8 +6,8 @@ use lib.ListN.{length, take, length-set}
 use borrow.Author.Needs.{needs}
 use Rattle.statement.specs.Bytes.{fromBytes}
 use Rattle.words.proofs.Laws.{word-more, words-all}
-use Rattle.words.proofs.words_of.Statement.{statement}
-use Rattle.words.proofs.words_of.Tie as tie
+use Rattle.words.proofs.read_words.Statement.{statement}
+use Rattle.words.proofs.read_words.Tie as tie
 
 abbrev Inv-loop : tie.InvT-loop
 Inv-loop count body words₀ e₀ words e = (e ≤ count) × (length words ≡ 4096) × (take e words ≡ take e (fromBytes body))
@@ -16,7 +16,7 @@ abbrev μ-loop : tie.MeasureT-loop
 μ-loop count body words₀ e₀ words e = count - e
 
 loop-holds : tie.Need-loop-holds Inv-loop μ-loop
-loop-holds c = (omega arith, refl, refl)
+loop-holds c = (omega arith, c .before .pre .2, refl)
 
 mul-word-at : tie.Need-mul-word-at Inv-loop μ-loop
 mul-word-at c = search needs
@@ -27,8 +27,8 @@ word-at-requires c κs = search needs
 mul-words : tie.Need-mul-words Inv-loop μ-loop
 mul-words c = search needs
 
-array-write-words : tie.Need-array-write-words Inv-loop μ-loop
-array-write-words c = search needs
+element-write-words : tie.Need-element-write-words Inv-loop μ-loop
+element-write-words c = search needs
 
 add-e : tie.Need-add-e Inv-loop μ-loop
 add-e c = search needs
@@ -49,11 +49,13 @@ loop-again c =
 returns : tie.Need-returns Inv-loop μ-loop
 returns c =
     let at = c .before in
-    let s = at .before .before in
-    words-all (s .args .body .now) (s .args .count) (s .pre .1) (at .loop .words) (at .loop .e) (omega arith) (at .loop .inv .2)
+    let s = at .before .before in (
+      at .loop .inv .1,
+      words-all (s .args .body .now) (s .args .count) (s .pre .1) (at .loop .words) (at .loop .e) (omega arith) (at .loop .inv .2),
+    )
 
-pub words-of-spec : {M : Type 1} → statement M
-words-of-spec =
+pub read-words-spec : {M : Type 1} → statement M
+read-words-spec =
     tie.close
     (tie.spec
     Inv-loop
@@ -62,7 +64,7 @@ words-of-spec =
     mul-word-at
     word-at-requires
     mul-words
-    array-write-words
+    element-write-words
     add-e
     loop-less
     loop-again
