@@ -1,9 +1,11 @@
-/* How fast the library is: each call on each input by the library and by plain.c, the same algorithm in plain C.
- * Both are timed in turn in this one process, and their answers are compared after every round: a difference ends the program
- * with exit status 1. A time is processor time, the best of seven rounds, each of at least 0.05 seconds for either side. The
- * last line gives the worst ratio of the library's time to plain C's.
+/* How fast the library is: each call on each input by the library and by plain.c, the straightforward algorithm in plain C; a
+ * whole run also by fast.c, the library's own algorithm in plain C.
+ * All are timed in turn in this one process, and their answers are compared after every round: a difference ends the program
+ * with exit status 1. A time is processor time, the best of seven rounds, each of at least 0.05 seconds for each side. The
+ * last lines give the worst ratios of the library's time to plain C's and to fast C's.
  */
 #define _POSIX_C_SOURCE 200809L
+#include "fast.h"
 #include "inputs.h"
 #include "plain.h"
 
@@ -120,6 +122,15 @@ static void c_run_record(struct answer *out)
     out->reply = plain_run_record(in.record, in.record_length, &out->list, &out->trials);
 }
 
+static void fast_c_run_matrix(struct answer *out)
+{
+    out->reply = fast_run_matrix(in.n, in.entries, SPLITBOX_MATRIX(in.n), &out->list, &out->trials);
+}
+static void fast_c_run_table(struct answer *out)
+{
+    out->reply = fast_run_table(in.n, in.table, SPLITBOX_TABLE(in.n), &out->list, &out->trials);
+}
+
 static double lesser(double p, double q) { return p < q ? p : q; }
 
 /* The logarithm to base 2 of a number from 1 on, to three places (a static libm is not everywhere). */
@@ -156,43 +167,59 @@ static double seconds_of(call *f, size_t times, struct answer *out)
 
 static size_t times_for(double seconds) { return seconds < ROUND_SECONDS ? (size_t)(ROUND_SECONDS / seconds) + 1 : 1; }
 
+/* The sides: the library, plain C and fast C. */
+enum { LIBRARY, PLAIN, FAST, SIDES };
+
 struct time {
-    double library, c;
+    double of[SIDES]; /* 0 where a side has no such call */
 };
-static double ratio_of(struct time t) { return t.library / t.c; }
 
 static struct {
     double ratio;
     char where[64];
-} worst;
+} worst[SIDES];
 
-/* Both sides timed in turn, answers compared; prints the line of the table. */
-static struct time measure(const char *name, call *library, call *c)
+/* The sides timed in turn, answers compared; prints the line of the table. */
+static struct time measure(const char *name, call *library, call *plain, call *fast)
 {
-    static struct answer by_library, by_c;
-    memset(&by_library, 0, sizeof by_library);
-    memset(&by_c, 0, sizeof by_c);
-    size_t library_times = times_for(seconds_of(library, 1, &by_library));
-    size_t c_times = times_for(seconds_of(c, 1, &by_c));
-    struct time best = {1e9, 1e9};
-    for (int round = 0; round < ROUNDS; round++) {
-        best.library = lesser(best.library, seconds_of(library, library_times, &by_library));
-        best.c = lesser(best.c, seconds_of(c, c_times, &by_c));
-        if (by_library.reply != SPLITBOX_DONE || memcmp(&by_library, &by_c, sizeof by_c) != 0)
-            fail("the library and plain C answer differently");
-    }
-    printf("%-32s %3zu %12.1f %12.1f %7.2f\n", name, in.n, 1e6 * best.library, 1e6 * best.c, ratio_of(best));
+    static struct answer by[SIDES];
+    call *const calls[SIDES] = {library, plain, fast};
+    struct time best = {{0}};
+    size_t times[SIDES];
+    memset(by, 0, sizeof by);
+    for (int s = 0; s < SIDES; s++)
+        if (calls[s] != NULL) {
+            times[s] = times_for(seconds_of(calls[s], 1, &by[s]));
+            best.of[s] = 1e9;
+        }
+    for (int round = 0; round < ROUNDS; round++)
+        for (int s = 0; s < SIDES; s++)
+            if (calls[s] != NULL) {
+                best.of[s] = lesser(best.of[s], seconds_of(calls[s], times[s], &by[s]));
+                if (by[s].reply != SPLITBOX_DONE || memcmp(&by[s], &by[LIBRARY], sizeof by[s]) != 0)
+                    fail("the library and C answer differently");
+            }
+    printf("%-32s %3zu %12.1f", name, in.n, 1e6 * best.of[LIBRARY]);
+    for (int s = PLAIN; s < SIDES; s++)
+        if (calls[s] != NULL) {
+            double ratio = best.of[LIBRARY] / best.of[s];
+            printf(" %12.1f %7.2f", 1e6 * best.of[s], ratio);
+            if (ratio > worst[s].ratio) {
+                worst[s].ratio = ratio;
+                snprintf(worst[s].where, sizeof worst[s].where, "%s, n = %zu", name, in.n);
+            }
+        }
+    printf("\n");
     fflush(stdout);
-    if (ratio_of(best) > worst.ratio) {
-        worst.ratio = ratio_of(best);
-        snprintf(worst.where, sizeof worst.where, "%s, n = %zu", name, in.n);
-    }
     return best;
 }
 
-static void print_head(const char *what)
+static void print_head(const char *what, bool fast)
 {
-    printf("%-32s %3s %12s %12s %7s\n", what, "n", "library us", "plain C us", "ratio");
+    printf("%-32s %3s %12s %12s %7s", what, "n", "library us", "plain C us", "ratio");
+    if (fast)
+        printf(" %12s %7s", "fast C us", "ratio");
+    printf("\n");
 }
 
 static const size_t sizes[] = {8, 16, 32, 64};
@@ -207,32 +234,35 @@ static void fill_table(size_t n, uint32_t *unused)
 static const struct {
     const char *name;
     void (*fill)(size_t n, uint32_t *entries);
-    call *library, *c;
+    call *library, *plain, *fast;
 } runs[] = {
-    {"uniform matrix", uniform_matrix, library_run_matrix, c_run_matrix},
-    {"tree-made matrix", tree_matrix, library_run_matrix, c_run_matrix},
-    {"noisy matrix", noisy_matrix, library_run_matrix, c_run_matrix},
-    {"tree-made table", fill_table, library_run_table, c_run_table},
+    {"uniform matrix", uniform_matrix, library_run_matrix, c_run_matrix, fast_c_run_matrix},
+    {"tree-made matrix", tree_matrix, library_run_matrix, c_run_matrix, fast_c_run_matrix},
+    {"noisy matrix", noisy_matrix, library_run_matrix, c_run_matrix, fast_c_run_matrix},
+    {"tree-made table", fill_table, library_run_table, c_run_table, fast_c_run_table},
 };
 enum { RUNS = sizeof runs / sizeof runs[0] };
 
 static void measure_runs(void)
 {
     struct time times[RUNS][SIZES];
-    print_head("whole run");
+    print_head("whole run", true);
     for (size_t r = 0; r < RUNS; r++)
         for (size_t s = 0; s < SIZES; s++) {
             in.n = sizes[s];
             runs[r].fill(in.n, in.entries);
-            times[r][s] = measure(runs[r].name, runs[r].library, runs[r].c);
+            times[r][s] = measure(runs[r].name, runs[r].library, runs[r].plain, runs[r].fast);
         }
-    printf("\n%-32s %8s %12s %6s %12s %6s\n", "the time grows by", "n to 2n", "library", "log2", "plain C", "log2");
+    printf("\n%-32s %8s %12s %6s %12s %6s %12s %6s\n", "the time grows by", "n to 2n", "library", "log2", "plain C", "log2",
+           "fast C", "log2");
     for (size_t r = 0; r < RUNS; r++)
         for (size_t s = 1; s < SIZES; s++) {
-            double library = times[r][s].library / times[r][s - 1].library;
-            double c = times[r][s].c / times[r][s - 1].c;
-            printf("%-32s %2zu to %2zu %12.1f %6.2f %12.1f %6.2f\n", runs[r].name, sizes[s - 1], sizes[s], library,
-                   log2_of(library), c, log2_of(c));
+            printf("%-32s %2zu to %2zu", runs[r].name, sizes[s - 1], sizes[s]);
+            for (int side = 0; side < SIDES; side++) {
+                double by = times[r][s].of[side] / times[r][s - 1].of[side];
+                printf(" %12.1f %6.2f", by, log2_of(by));
+            }
+            printf("\n");
         }
 }
 
@@ -240,9 +270,9 @@ static void measure_growth(void)
 {
     in.n = 32;
     tree_matrix(in.n, in.entries);
-    measure("grow_matrix, allowance 247", library_grow_matrix, c_grow_matrix);
+    measure("grow_matrix, allowance 247", library_grow_matrix, c_grow_matrix, NULL);
     tree_table(in.n, in.table);
-    measure("grow_table, allowance 247", library_grow_table, c_grow_table);
+    measure("grow_table, allowance 247", library_grow_table, c_grow_table, NULL);
 }
 
 static void measure_trees(void)
@@ -254,9 +284,9 @@ static void measure_trees(void)
         in.list.rows != SPLITBOX_ROWS ||
         plain_write_tree(in.n, &in.list, in.tree, SPLITBOX_TREE(in.n, in.list.rows)) != SPLITBOX_DONE)
         fail("a tree-made matrix of 64 taxa does not give 125 rows");
-    measure("write_tree, 125 rows", library_write_tree, c_write_tree);
-    measure("read_tree, 125 rows", library_read_tree, c_read_tree);
-    measure("sum_paths, 125 rows", library_sum_paths, c_sum_paths);
+    measure("write_tree, 125 rows", library_write_tree, c_write_tree, NULL);
+    measure("read_tree, 125 rows", library_read_tree, c_read_tree, NULL);
+    measure("sum_paths, 125 rows", library_sum_paths, c_sum_paths, NULL);
 }
 
 static void measure_records(void)
@@ -266,23 +296,24 @@ static void measure_records(void)
     tree_matrix(in.n, in.entries);
     matrix_body(in.n, in.entries, body);
     in.record_length = make_record(SPLITBOX_KIND_MATRIX, in.n, body, 4 * SPLITBOX_MATRIX(in.n), in.record);
-    measure("find_record, matrix", library_find_record, c_find_record);
-    measure("run_record, matrix", library_run_record, c_run_record);
+    measure("find_record, matrix", library_find_record, c_find_record, NULL);
+    measure("run_record, matrix", library_run_record, c_run_record, NULL);
     in.n = 36;
     tree_table(in.n, in.table);
     in.record_length = make_record(SPLITBOX_KIND_TABLE, in.n, in.table, SPLITBOX_TABLE(in.n), in.record);
-    measure("find_record, table", library_find_record, c_find_record);
-    measure("run_record, table", library_run_record, c_run_record);
+    measure("find_record, table", library_find_record, c_find_record, NULL);
+    measure("run_record, table", library_run_record, c_run_record, NULL);
 }
 
 int main(void)
 {
     measure_runs();
     printf("\n");
-    print_head("other calls");
+    print_head("other calls", false);
     measure_growth();
     measure_trees();
     measure_records();
-    printf("\nworst ratio: %.2f in %s\n", worst.ratio, worst.where);
+    printf("\nworst ratio to plain C: %.2f in %s\n", worst[PLAIN].ratio, worst[PLAIN].where);
+    printf("worst ratio to fast C: %.2f in %s\n", worst[FAST].ratio, worst[FAST].where);
     return 0;
 }

@@ -1,4 +1,4 @@
-/* The calls of include/splitbox.h in plain C, to hold the library against: same answers, same algorithm (see plain.c).
+/* The calls of include/splitbox.h in plain C, to hold the library against: same answers, the straightforward way (see plain.c).
  * A list is lent by a pointer to all of it, and a call that refuses leaves it as it was. */
 #ifndef PLAIN_H
 #define PLAIN_H

@@ -1,14 +1,12 @@
--- What the searches for a taxon that is alone find. Assumes nothing.
+-- What the search for another taxon of a group finds. Assumes nothing.
 use Prim.Native.Nat.{ℕ, _≤_, _<_}
 use native.Mathlib.Omega.{arith}
-use mathlib.Core.Path.{_≡_, sym, _∙_, ap}
+use mathlib.Core.Path.{_≡_, sym, ap}
 use mathlib.Core.Bool.{Bool, true, false, not, _&&_}
 use lib.Dec.{eqb}
-use borrow.Author.Tests.{lt-ltb}
 use Rattle.statement.specs.Cluster.{bit}
-use Rattle.statement.specs.Lowest.{lowest}
-use Rattle.statement.specs.Growing.{alone, looked}
-use Rattle.statement.proofs.Lowest.{Looking, looking-found, some-at, none-at}
+use Rattle.statement.specs.Growing.{alone}
+use Rattle.statement.proofs.Lowest.{Looking, some-at, none-at}
 
 -- another taxon on u's side
 abbrev pub besides : ℕ → ℕ → ℕ → Bool
@@ -24,11 +22,3 @@ not-alone k c u i l e = sym (ap not (some-at (besides c u) k i l e))
 pub all-passed : (k c u i : ℕ) → Looking (besides c u) k i → k ≤ i → true ≡ alone k c u
 unfolding alone
 all-passed k c u i h l = sym (ap not (none-at (besides c u) k (λ j m. h .passed j (omega arith))))
-
-pub found-alone : (k a c u : ℕ) → Looking (alone k c) k u → u < k → alone k c u ≡ true → u ≡ looked k a c
-unfolding looked
-found-alone k a c u h l e = let q : u ≡ lowest (alone k c) k = looking-found h l e in q ∙ sym (rw (lt-ltb (lowest (alone k c) k) k (omega arith)))
-
-pub none-alone : (k a c u : ℕ) → Looking (alone k c) k u → k ≤ u → a ≡ looked k a c
-unfolding looked
-none-alone k a c u h l = sym (rw (none-at (alone k c) k (λ j m. h .passed j (omega arith))))

@@ -20,7 +20,6 @@ use Rattle.statement.proofs.Run.{rows-few}
 use Rattle.statement.proofs.Allowance.{well-rows, larger-well, cost-few}
 use Rattle.statement.proofs.Ties.{theMatrix, the-matrix, theTable, the-table}
 use Rattle.splits_list.proofs.Laws.{Roomy, rows-length}
-use Rattle.matrix.specs.Square.{Square}
 use Rattle.grow.specs.Source.{trialBy, mostBy, parentsBy, mannerBy, extendedBy, withTaxon, Source}
 
 module _ (kind n : ℕ) (entries bytes : List ℕ) where
@@ -95,9 +94,6 @@ list-roomy k rows h =
     }
 
 module _ (kind n : ℕ) (entries bytes : List ℕ) (source : Source kind n entries bytes) where
-  pub square : kind ≡ 1 → Square n entries
-  square e = record { few = source .few; size = source .matrix e .size }
-
   pub size : kind ≢ 1 → length bytes ≡ choose n 4
   size e = source .table e .size
 

@@ -1,5 +1,5 @@
 -- A source as growth gets it: its kind (document 01's record kinds: 1 matrix, else table) with the entries and the bytes, of which one is used.
-use Prim.Native.Nat.{ℕ, suc, _≤_}
+use Prim.Native.Nat.{ℕ, suc, _+_, _≤_}
 use mathlib.Core.Path.{_≡_}
 use mathlib.Core.Logic.{_≢_}
 use mathlib.Core.Bool.{cond}
@@ -9,6 +9,8 @@ use Rattle.statement.specs.declared.Splits.{Splits}
 use Rattle.statement.specs.Matrix.{distance, weightLimit, AcceptedMatrix}
 use Rattle.statement.specs.Table.{tableWeight, AcceptedTable}
 use Rattle.statement.specs.Rows.{Row, rowsOf, listOf}
+use Rattle.lone_weights.specs.Lone.{Kept}
+use Rattle.table_trial.specs.Sets.{Prepared}
 use Rattle.statement.specs.Growing.{matrixTrial, tableTrial, withTrivial, Manner, enlarged}
 
 -- its trial, and the most that a split of it can weigh
@@ -38,3 +40,8 @@ pub record Source (kind n : ℕ) (entries bytes : List ℕ) : Type 0 where
   pub few : n ≤ 64
   pub matrix : kind ≡ 1 → AcceptedMatrix n entries
   pub table : kind ≢ 1 → AcceptedTable n bytes
+
+-- what was prepared for its newcomer k: in a matrix the kept weights, in a table the sets of k
+pub record Ready (kind n : ℕ) (entries bytes : List ℕ) (k : ℕ) (lone sets : List ℕ) : Type 0 where
+  pub matrix : kind ≡ 1 → Kept (distance n entries) (k + 1) (k + 1) lone
+  pub table : kind ≢ 1 → Prepared bytes k sets

@@ -13,7 +13,8 @@ fn run_body(n: usize, body: &[u8]) -> Growth
     ensures { λ r. ⌜ r ≡ runMatrix n (fromBytes (now (body .entry))) ⌝ }
 {
     let count = n * n;
-    let words = words::words_of(count, body);
+    let mut words = [0u32; 4096];
+    words::read_words(count, body, &mut words);
     run::run_matrix(n, &words[..count])
 }
 

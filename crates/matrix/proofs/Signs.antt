@@ -1,9 +1,10 @@
 -- The signed score: one difference of two sums, its sign, and a weight lowered by it. Assumes nothing.
-use Prim.Native.Nat.{ℕ, zero, suc, _+_, _-_, _^_, _<_, min}
+use Prim.Native.Nat.{ℕ, zero, suc, _+_, _-_, _^_, _≤_, _<_, min}
 use native.Mathlib.Omega.{arith}
 use mathlib.Core.Path.{_≡_, refl, sym, _∙_, ap, ap₂, subst}
-use mathlib.Core.Bool.{Bool, true, false, cond, not, _&&_, _||_, true≢false}
-use lib.Dec.{T, ltb, eqb}
+use mathlib.Core.Logic.{_↔_}
+use mathlib.Core.Bool.{Bool, true, false, cond, true≢false}
+use lib.Dec.{T, ltb}
 use lib.IntN.{ℤ, pos, negsuc, natAbs, subℕ, _-ℤ_}
 use lib.Signed.{ltZ, leZ, nonNeg}
 use mir.Syntax.{w64}
@@ -11,8 +12,9 @@ use mir.Val.{SFits, toZ}
 use mir.ValLaws.{toZ-ofZ}
 use borrow.Author.Tests.{ltb-false, leb-true, leb-false, le-ltb}
 use Rattle.statement.specs.Matrix.{score}
-use Rattle.statement.specs.Growing.{above, alone, pairs}
-use Rattle.statement.proofs.Parts.{pairSays, fourOf, Parted, four-asked}
+use Rattle.statement.specs.Growing.{above}
+use Rattle.statement.proofs.Matrix.{le-sub, sub-le}
+use Rattle.statement.proofs.Trial.{above-is}
 
 minus : (a b : ℕ) → pos a -ℤ pos b ≡ subℕ a b
 minus a zero = let e : a + 0 ≡ a - 0 = omega arith in ap pos e ∙ rw (le-ltb a 0 (omega arith))
@@ -53,26 +55,9 @@ pub score-is : (d : ℕ → ℕ → ℕ) (w x y z : ℕ) {wy xz wz xy wx yz m : 
     → subℕ m (wx + yz) ≡ score d w x y z
 score-is d w x y z wy xz wz xy wx yz m = cc
 
--- a weight, lowered by the score of a four that is asked
-module _ (d : ℕ → ℕ → ℕ) (k a c w x y z : ℕ) where
-  pub lowered-by : {r : ℕ} {s t : ℤ} → Parted c a x y z → pairs k c a x ≡ true → pairs k c y z ≡ true → r ≡ min (above s) w → s ≡ t → t ≡ score d a x y z
-      → r ≡ min (fourOf (pairSays d k c a) a c w x y z) w
-  unfolding pairSays
-  lowered-by p i j e f g = four-asked (pairSays d k c a) a c w x y z p (e ∙ ap (λ (v : ℤ). min (above v) w) (f ∙ g) ∙ sym (rw (i, j)))
-
-  -- no pair: the four says nothing
-  pub no-pair : pairs k c y z ≡ false → pairSays d k c a w x y z ≡ w
-  unfolding pairSays
-  no-pair j = go (pairs k c a x)
-    where
-      go : (b : Bool) → cond (b && pairs k c y z) (above (score d a x y z)) w ≡ w
-      go true = rw j
-      go false = refl
-
-pub no-first-pair : (d : ℕ → ℕ → ℕ) (k a c w x : ℕ) → pairs k c a x ≡ false → (y z : ℕ) → pairSays d k c a w x y z ≡ w
-unfolding pairSays
-no-first-pair d k a c w x i y z = rw i
-
--- as the tests say it
-pub pair-of : (k c y z : ℕ) {r s : Bool} → r ≡ (not (eqb y z) || s) → s ≡ alone k c y → r ≡ pairs k c y z
-pair-of k c y z e f = e ∙ ap (λ (b : Bool). not (eqb y z) || b) f
+-- a number from 1 on at most a weight lowered by the score p less q
+pub lowered-at : (t p q best r : ℕ) → 1 ≤ t → r ≡ min (above (subℕ p q)) best → (t ≤ r) ↔ ((t ≤ best) × (t + q ≤ p))
+lowered-at t p q best r pt e = (
+  (λ h. (omega arith, sub-le t p q (above-is t (subℕ p q) pt .0 (omega arith)))),
+  (λ h. omega (arith, h .0, above-is t (subℕ p q) pt .1 (le-sub t p q (h .1)))),
+)

@@ -1,22 +1,14 @@
-// A distance matrix, n by n, row by row: its checks, the score of a pairing, and the trial of a split over the fours that hold one taxon.
-// Document 01, "Scores and splits", "Growing and the allowance" and "Refusal numbers".
-use bits::is_alone;
-use bits::is_pair;
-use bits::same_side;
-use bits::whose;
+// A distance matrix, n by n, row by row: its checks, and the signed score of a pairing with the weight that it lowers.
+// Document 01, "Scores and splits" and "Refusal numbers".
 use statement::Outcome;
 ghost use Prim.Native.Nat.{_+_, _*_, _≤_, _<_, min};
 ghost use mathlib.Core.Path.{_≡_};
-ghost use mathlib.Core.Bool.{true};
-ghost use mathlib.Core.Logic.{_≢_};
-ghost use lib.IntN.{pos};
+ghost use lib.IntN.{pos, subℕ};
 ghost use lib.Signed.{ltZ};
-ghost use Rattle.statement.specs.Cluster.{bit};
 ghost use Rattle.statement.specs.Lowest.{lowest};
-ghost use Rattle.statement.specs.Matrix.{distance, score};
-ghost use Rattle.statement.specs.Growing.{above, alone, pairs, pairTrial, matrixTrial};
+ghost use Rattle.statement.specs.Matrix.{AcceptedMatrix, distance, distanceLimit, score};
+ghost use Rattle.statement.specs.Growing.{above};
 ghost use Rattle.statement.specs.Refusals.{outcomeOf, matrixChecks};
-ghost use Rattle.statement.proofs.Parts.{pairSays, fourOf, withXY, withX};
 ghost use Rattle.matrix.specs.Square.{Square, Between};
 ghost use Rattle.matrix.specs.Entries.{entryCheck};
 
@@ -108,37 +100,41 @@ pub fn check(n: usize, entries: &[u32]) -> Outcome
     Outcome::Done
 }
 
-// The lesser of two sums.
-fn least(p: u64, q: u64) -> u64
+// The distance of two taxa of an accepted matrix.
+pub fn at(n: usize, entries: &[u32], i: usize, j: usize) -> u32
+    requires { ⌜ AcceptedMatrix n (now entries) × (i < n) × (j < n) ⌝ }
+    ensures { λ r. ⌜ (r ≡ distance n (now (entries .entry)) i j) × (r ≤ distanceLimit) ⌝ }
+{
+    entries[i * n + j]
+}
+
+// The lesser of two numbers.
+pub fn least(p: u32, q: u32) -> u32
     ensures { λ r. ⌜ r ≡ min p q ⌝ }
 {
     if p <= q { p } else { q }
 }
 
-// Score: for a pairing wx|yz the lesser of wy + xz and wz + xy, less (wx + yz). Three of the distances have been read already.
-fn score_of(
-    n: usize,
-    entries: &[u32],
-    w: usize,
-    x: usize,
-    y: usize,
-    z: usize,
-    wx: u64,
-    wy: u64,
-    xy: u64,
-) -> i64
-    requires { ⌜ Square n (now entries) × (w < n) × (x < n) × (y < n) × (z < n) ⌝ }
-    requires { ⌜ Between n (now entries) w x wx × Between n (now entries) w y wy × Between n (now entries) x y xy ⌝ }
+// The signed difference of two sums.
+pub fn less(p: u32, q: u32) -> i64
+    ensures { λ r. ⌜ r ≡ subℕ p q ⌝ }
+{
+    p as i64 - q as i64
+}
+
+// Score: for a pairing wx|yz the lesser of wy + xz and wz + xy, less (wx + yz).
+pub fn score_of(n: usize, entries: &[u32], w: usize, x: usize, y: usize, z: usize) -> i64
+    requires { ⌜ AcceptedMatrix n (now entries) × (w < n) × (x < n) × (y < n) × (z < n) ⌝ }
     ensures { λ r. ⌜ r ≡ score (distance n (now (entries .entry))) w x y z ⌝ }
 {
-    let wy_xz = wy + between(n, entries, x, z);
-    let wz_xy = between(n, entries, w, z) + xy;
-    let wx_yz = wx + between(n, entries, y, z);
-    least(wy_xz, wz_xy) as i64 - wx_yz as i64
+    let wy_xz = at(n, entries, w, y) + at(n, entries, x, z);
+    let wz_xy = at(n, entries, w, z) + at(n, entries, x, y);
+    let wx_yz = at(n, entries, w, x) + at(n, entries, y, z);
+    less(least(wy_xz, wz_xy), wx_yz)
 }
 
 // Matrix rule: zero is not above zero, so a tie does not support.
-fn supports(score: i64) -> bool
+pub fn supports(score: i64) -> bool
     ensures { λ r. ⌜ r ≡ ltZ (pos 0) score ⌝ }
 {
     score > 0
@@ -157,108 +153,9 @@ fn lowered(best: u32, score: i64) -> u32
     0
 }
 
-// A weight, lowered by the four ax|yz of the split c of the first k taxa, where a, x is a pair of its group, y is on the other side, and `single`
-// says whether y is alone there.
-fn four(
-    n: usize,
-    entries: &[u32],
-    k: usize,
-    a: usize,
-    c: u64,
-    x: usize,
-    y: usize,
-    z: usize,
-    ax: u64,
-    ay: u64,
-    xy: u64,
-    single: bool,
-    best: u32,
-) -> u32
-    requires { ⌜ Square n (now entries) × (a < n) × (x < n) × (y < n) × (z < n) ⌝ }
-    requires { ⌜ Between n (now entries) a x ax × Between n (now entries) a y ay × Between n (now entries) x y xy ⌝ }
-    requires { ⌜ (bit c x ≡ bit c a) × (bit c y ≢ bit c a) × (pairs k c a x ≡ true) × (single ≡ alone k c y) ⌝ }
-    ensures { λ r. ⌜ r ≡ min (fourOf (pairSays (distance n (now (entries .entry))) k c a) a c best x y z) best ⌝ }
+// The same for the score p less q.
+pub fn lowered_by(best: u32, p: u32, q: u32) -> u32
+    ensures { λ r. ⌜ r ≡ min (above (subℕ p q)) best ⌝ }
 {
-    if same_side(c, a, z) {
-        return best;
-    }
-    if !is_pair(single, y, z) {
-        return best;
-    }
-    lowered(best, score_of(n, entries, a, x, y, z, ax, ay, xy))
-}
-
-// A weight, lowered by the fours ax|yz with this y and any z, where a, x is a pair of its group.
-fn fours_with_xy(
-    n: usize,
-    entries: &[u32],
-    k: usize,
-    a: usize,
-    c: u64,
-    w: u32,
-    x: usize,
-    y: usize,
-) -> u32
-    requires { ⌜ Square n (now entries) × (k ≤ n) × (a < k) × (x < k) × (y < k) ⌝ }
-    requires { ⌜ (bit c x ≡ bit c a) × (pairs k c a x ≡ true) ⌝ }
-    ensures { λ r. ⌜ r ≡ withXY (pairSays (distance n (now (entries .entry))) k c a) k a c w x y ⌝ }
-{
-    if same_side(c, a, y) {
-        return w;
-    }
-    let ax = between(n, entries, a, x);
-    let ay = between(n, entries, a, y);
-    let xy = between(n, entries, x, y);
-    let single = is_alone(k, c, y);
-    let mut best = w;
-    let mut z = 0;
-    while z < k {
-        best = four(n, entries, k, a, c, x, y, z, ax, ay, xy, single, best);
-        z += 1;
-    }
-    best
-}
-
-// A weight, lowered by the fours ax|yz with this x and any y and z.
-fn fours_with_x(n: usize, entries: &[u32], k: usize, a: usize, c: u64, w: u32, x: usize) -> u32
-    requires { ⌜ Square n (now entries) × (k ≤ n) × (a < k) × (x < k) ⌝ }
-    ensures { λ r. ⌜ r ≡ withX (pairSays (distance n (now (entries .entry))) k c a) k a c w x ⌝ }
-{
-    if !same_side(c, a, x) {
-        return w;
-    }
-    if !is_pair(is_alone(k, c, a), a, x) {
-        return w;
-    }
-    let mut best = w;
-    let mut y = 0;
-    while y < k {
-        best = fours_with_xy(n, entries, k, a, c, best, x, y);
-        y += 1;
-    }
-    best
-}
-
-// A trial of the split c of the first k taxa over its fours ax|yz that include a: 0 where some score is zero or below, else the least of w and the
-// scores.
-fn pair_trial(n: usize, entries: &[u32], k: usize, a: usize, c: u64, w: u32) -> u32
-    requires { ⌜ Square n (now entries) × (k ≤ n) × (a < k) ⌝ }
-    ensures { λ r. ⌜ r ≡ pairTrial (distance n (now (entries .entry))) k a c w ⌝ }
-{
-    let mut best = w;
-    let mut x = 0;
-    while x < k {
-        best = fours_with_x(n, entries, k, a, c, best, x);
-        x += 1;
-    }
-    best
-}
-
-// A trial: over all fours of the split where a taxon is alone in its group, else over those that include a.
-pub fn trial(n: usize, entries: &[u32], k: usize, a: usize, c: u64, w: u32) -> u32
-    requires { ⌜ Square n (now entries) × (k ≤ n) × (a < k) ⌝ }
-    ensures { λ r. ⌜ r ≡ matrixTrial (distance n (now (entries .entry))) k a c w ⌝ }
-{
-    let b = whose(k, a, c);
-    pair_trial(n, entries, k, b, c, w)
+    lowered(best, less(p, q))
 }

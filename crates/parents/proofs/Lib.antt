@@ -1,1 +1,2 @@
-pub mod Putting
+-- The root of the proofs.
+pub mod Laws

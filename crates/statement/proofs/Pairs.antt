@@ -53,10 +53,10 @@ single-alone n c u h = ap not (none-at (λ i. eqb (bit c i) (bit c u) && not (eq
     at i l true q = rw (eq-eqb i u (h .only i l (eqb-true (bit c i) (bit c u) q)))
     at i l false q = refl
 
-pairs-pair : (n c u u′ : ℕ) → pairs n c u u′ ≡ true → Pair n c u u′
+pub pairs-pair : (n c u u′ : ℕ) → pairs n c u u′ ≡ true → Pair n c u u′
 pairs-pair n c u u′ h e = alone-single n c u (rw (eq-eqb u u′ e) at h)
 
-pair-pairs : (n c u u′ : ℕ) → Pair n c u u′ → pairs n c u u′ ≡ true
+pub pair-pairs : (n c u u′ : ℕ) → Pair n c u u′ → pairs n c u u′ ≡ true
 pair-pairs n c u u′ p = at (eqb u u′) refl
   where
     at : (b : Bool) → eqb u u′ ≡ b → (not b || alone n c u) ≡ true

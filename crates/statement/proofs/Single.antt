@@ -75,6 +75,14 @@ trivial-pow k c i l e = go (eqb (c + 2) (2 ^ k))
     go true = tt
     go false = of-pow k c i l e
 
+-- a taxon that is the whole cluster
+pub pow-single : (k c i : ℕ) → c ≡ 2 ^ i → Single k c i
+pow-single k c i e = record { only = λ j l q. at j q (ℕ-discrete j i) }
+  where
+    at : (j : ℕ) → bit c j ≡ bit c i → Dec (j ≡ i) → j ≡ i
+    at j q (yes p) = p
+    at j q (no p) = absurd (omega (arith, q, ap (λ (n : ℕ). bit n i) e, ap (λ (n : ℕ). bit n j) e, pow-self i, pow-other i j p))
+
 -- THE TEST: a split is trivial where some taxon is the whole of its group
 pub trivial-single : (k c : ℕ) → Split k c → T (trivial k c) → (u : ℕ) × (u < k) × Single k c u
 trivial-single k c s h = go (trivial-cases k c h)
@@ -89,11 +97,7 @@ trivial-single k c s h = go (trivial-cases k c h)
         at : (i : ℕ) → i < k → bit c i ≡ bit c 0 → Dec (0 < i) → i ≡ 0
         at i l q (yes p) = absurd (omega (arith, rest-other k c i e l p, s .free))
         at i l q (no p) = omega arith
-    go (inr (i, li, e)) = (i, li, record { only = λ j l q. at j q (ℕ-discrete j i) })
-      where
-        at : (j : ℕ) → bit c j ≡ bit c i → Dec (j ≡ i) → j ≡ i
-        at j q (yes p) = p
-        at j q (no p) = absurd (omega (arith, q, ap (λ (n : ℕ). bit n i) e, ap (λ (n : ℕ). bit n j) e, pow-self i, pow-other i j p))
+    go (inr (i, li, e)) = (i, li, pow-single k c i e)
 
 pub single-trivial : (k c u : ℕ) → Split k c → u < k → Single k c u → T (trivial k c)
 single-trivial k c u s l h = go (zero-or-one c u)

@@ -1,9 +1,10 @@
 -- Laws of C(p,q), and that the places of the fours of n taxa are below C(n,4). Assumes nothing.
 use Prim.Native.Nat.{ℕ, zero, suc, _+_, _*_, _-_, _/_, _^_, _≤_, _<_}
+use native.Mathlib.Numerals.{add-one}
 use native.Mathlib.Omega.{arith}
 use native.Mathlib.Decide.{decLt, le-ind}
 use native.Mathlib.Nat.{zero-mul, add-mul, mul-add, suc-mul, mul-suc, mul-le-mul, div-eq-of-eq-mul-right, pow-suc, suc-sub-suc, pow-le-pow-right, le-trans}
-use mathlib.Core.Path.{_≡_, refl, sym}
+use mathlib.Core.Path.{_≡_, refl, sym, ap}
 use Rattle.statement.specs.Table.{choose, place}
 
 pub choose-none : (p q : ℕ) → p < q → choose p q ≡ 0
@@ -66,7 +67,7 @@ unfolding choose
 moved t p q n h l =
     omega (arith, le-ind (λ m. choose (suc p) (suc q) ≤ choose m (suc q)) (omega arith) (λ m g e. omega (arith, choose-grows m (suc q))) n l)
 
-choose-one : (p : ℕ) → choose p 1 ≡ p
+pub choose-one : (p : ℕ) → choose p 1 ≡ p
 unfolding choose
 choose-one zero = refl
 choose-one (suc p) = omega (arith, choose-one p)
@@ -75,3 +76,27 @@ choose-one (suc p) = omega (arith, choose-one p)
 pub place-below : (a b c d n : ℕ) → a < b → b < c → c < d → d < n → place a b c d < choose n 4
 place-below a b c d n ab bc cd dn =
     moved (a + choose b 2 + choose c 3) d 3 n (moved (a + choose b 2) c 2 d (moved a b 1 c (omega (arith, choose-one b)) bc) cd) dn
+
+pub choose-more : (p q : ℕ) → choose (p + 1) (suc q) ≡ choose p q + choose p (suc q)
+unfolding choose
+choose-more p q = rw add-one
+
+-- THE PLACES OF PAIRS p<q, at C(q,2) + p
+pub pair-under : (p q m : ℕ) → p < q → q < m → choose q 2 + p < choose m 2
+pair-under p q m pq qm = omega (arith, moved p q 1 m (omega (arith, choose-one q)) qm)
+
+all-pairs : choose 64 2 ≡ 2016
+unfolding choose
+all-pairs = refl
+
+pub pair-below : (p q : ℕ) → p < q → q < 64 → choose q 2 + p < 2016
+pair-below p q pq top = omega (arith, pair-under p q 64 pq top, all-pairs)
+
+-- tell the pairs
+pub pair-is : (p q r s : ℕ) → p < q → r < s → choose q 2 + p ≡ choose s 2 + r → (q ≡ s) × (p ≡ r)
+pair-is p q r s pq rs e = go (decLt q s) (decLt s q)
+  where
+    go : Dec (q < s) → Dec (s < q) → (q ≡ s) × (p ≡ r)
+    go (yes h) _ = absurd (omega (arith, pair-under p q s pq h))
+    go (no h) (yes g) = absurd (omega (arith, pair-under r s q rs g))
+    go (no h) (no g) = let same : q ≡ s = omega arith in (same, omega (arith, ap (λ (m : ℕ). choose m 2) same))

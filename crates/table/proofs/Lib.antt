@@ -1,4 +1,2 @@
 -- The root of the proofs.
 pub mod Choose
-pub mod Standing
-pub mod Said

@@ -16,15 +16,18 @@ roomy c =
     let hw : length (c .args .s .weights) ≡ 125 = search needs in
     record { clusters = hc; weights = hw; rows = c .pre .0 .2 }
 
+nearest-requires : tie.Need-nearest-requires
+nearest-requires c κs = let p = c .before .before .pre .0 in (p .0 .matrix, p .4, p .1)
+
 single-requires : tie.Need-single-requires
-single-requires c κs = omega (arith, c .before .before .pre .0 .0 .few, c .before .before .pre .0 .1)
+single-requires c κs = let p = c .before .before .before .pre .0 in omega (arith, p .0 .few, p .1)
 
 pass-requires : tie.Need-pass-requires
 pass-requires c κs =
-    let s = c .before .before .before .before .before in
+    let s = c .before .before .before .before .before .before in
     let a = s .args in
     let p = s .pre .0 in (
-      (p .0, p .1, roomy s .rows),
+      (p .0, p .1, c .before .before .before .nearest .ensures, p .5, roomy s .rows),
       (
         cluster-fits (a .n) (a .s) (roomy s) (p .0 .few) (p .1) (p .3) 0 (omega arith),
         first-room (trialBy (a .kind) (a .n) (a .entries .now) (a .bytes .now)) (mostBy (a .kind)) (a .s) (s .pre .1) _ (blank (a .s .taxa)),
@@ -36,34 +39,34 @@ most-requires c κs = search needs
 
 offer-requires : tie.Need-offer-requires
 offer-requires c κs =
-    let s = c .before .before .before .before .before .before .before .before .before in
+    let s = c .before .before .before .before .before .before .before .before .before .before in
     let a = s .args in
     let first = first-is (trialBy (a .kind) (a .n) (a .entries .now) (a .bytes .now)) (mostBy (a .kind)) (a .s) (s .pre .1) _ (blank (a .s .taxa)) _ (c .before .before .before .pass .ensures) in (
-      (s .pre .0 .0, s .pre .0 .1),
+      (s .pre .0 .0, s .pre .0 .1, c .before .before .before .before .before .before .before .nearest .ensures, s .pre .0 .5),
       second-room (trialBy (a .kind) (a .n) (a .entries .now) (a .bytes .now)) (mostBy (a .kind)) (a .s) (s .pre .1) _ first _ _ (c .before .before .before .before .before .before .single .ensures) (c .before .before .most .ensures),
     )
 
 pass-requires-2 : tie.Need-pass-requires-2
 pass-requires-2 c κs =
-    let s = c .before .before .before .before .before .before .before .before .before .before .before .before in
+    let s = c .before .before .before .before .before .before .before .before .before .before .before .before .before in
     let a = s .args in
     let p = s .pre .0 in
     let b = c .before .before .before .before .before .before .before .before .before .single .ensures in
     let first = first-is (trialBy (a .kind) (a .n) (a .entries .now) (a .bytes .now)) (mostBy (a .kind)) (a .s) (s .pre .1) _ (blank (a .s .taxa)) _ (c .before .before .before .before .before .before .pass .ensures) in
     let second = second-is (trialBy (a .kind) (a .n) (a .entries .now) (a .bytes .now)) (mostBy (a .kind)) (a .s) (s .pre .1) _ first _ _ b (c .before .before .before .before .before .most .ensures) _ (c .before .before .offer .ensures) in (
-      (p .0, p .1, roomy s .rows),
+      (p .0, p .1, c .before .before .before .before .before .before .before .before .before .before .nearest .ensures, p .5, roomy s .rows),
       (
         cluster-fits (a .n) (a .s) (roomy s) (p .0 .few) (p .1) (p .3) _ (omega (arith, b)),
         third-room (trialBy (a .kind) (a .n) (a .entries .now) (a .bytes .now)) (mostBy (a .kind)) (a .s) (s .pre .1) _ second _ b,
       ),
     )
 
-add-t20 : tie.Need-add-t20
-add-t20 c = search needs
+add-t23 : tie.Need-add-t23
+add-t23 c = let p = c .before .before .before .before .before .before .before .before .before .before .before .before .before .before .pre .0 in omega (arith, p .0 .few, p .1)
 
 returns : tie.Need-returns
 returns c =
-    let s = c .before .before .before .before .before .before .before .before .before .before .before .before .before in
+    let s = c .before .before .before .before .before .before .before .before .before .before .before .before .before .before in
     let a = s .args in
     let b = c .before .before .before .before .before .before .before .before .before .before .single .ensures in
     let first = first-is (trialBy (a .kind) (a .n) (a .entries .now) (a .bytes .now)) (mostBy (a .kind)) (a .s) (s .pre .1) _ (blank (a .s .taxa)) _ (c .before .before .before .before .before .before .before .pass .ensures) in
@@ -74,10 +77,11 @@ pub add-taxon-spec : {M : Type 1} → statement M
 add-taxon-spec =
     tie.close
     (tie.spec
+    nearest-requires
     single-requires
     pass-requires
     most-requires
     offer-requires
     pass-requires-2
-    add-t20
+    add-t23
     returns)

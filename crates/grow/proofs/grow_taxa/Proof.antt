@@ -1,11 +1,13 @@
 -- `grow::grow_taxa` meets its contract: what remains completes the growth (Going). Assumes nothing.
 use Prim.Native.Nat.{ℕ, _+_, _*_, _-_, _≤_}
 use native.Mathlib.Omega.{arith}
-use mathlib.Core.Path.{_≡_, sym, _∙_, subst}
+use mathlib.Core.Path.{_≡_, refl, sym, _∙_, subst}
 use lib.ListN.{length}
 use borrow.Author.Needs.{needs}
+use Rattle.statement.specs.Matrix.{distance}
 use Rattle.statement.specs.Growing.{cost}
 use Rattle.splits_list.proofs.Laws.{Roomy}
+use Rattle.lone_weights.specs.Lone.{Kept}
 use Rattle.grow.specs.Source.{mannerBy}
 use Rattle.grow.proofs.Sources.{Extending, extending, one-bare, given-room, again-roomy, again-well, cost-is, list-few, list-more, list-up, list-room, list-larger}
 use Rattle.grow.proofs.Going.{Going, going-from, going-done, going-short, going-turn, more-taxa}
@@ -13,10 +15,12 @@ use Rattle.grow.proofs.grow_taxa.Statement.{statement}
 use Rattle.grow.proofs.grow_taxa.Tie as tie
 
 abbrev Inv-loop : tie.InvT-loop
-Inv-loop kind n entries bytes allowance t₀ left₀ spent₀ t left spent = Going (mannerBy kind n entries bytes) n allowance t₀ t left spent × Roomy t
+Inv-loop kind n entries bytes allowance t₀ left₀ spent₀ lone₀ sets₀ from₀ t left spent lone sets from =
+    Going (mannerBy kind n entries bytes) n allowance t₀ t left spent × Roomy t × (length lone ≡ 64) × (length sets ≡ 2016) × (from ≤ t .taxa)
+    × (kind ≡ 1 → Kept (distance n entries) from from lone)
 
 abbrev μ-loop : tie.MeasureT-loop
-μ-loop kind n entries bytes allowance t₀ left₀ spent₀ t left spent = n - t .taxa
+μ-loop kind n entries bytes allowance t₀ left₀ spent₀ lone₀ sets₀ from₀ t left spent lone sets from = n - t .taxa
 
 loop-holds : tie.Need-loop-holds Inv-loop μ-loop
 loop-holds c =
@@ -26,6 +30,10 @@ loop-holds c =
     let hw : length (a .s .weights) ≡ 125 = search needs in (
       going-from (mannerBy (a .kind) (a .n) (a .entries .now) (a .bytes .now)) (a .n) (a .allowance) (a .s) (s .pre .1),
       record { clusters = hc; weights = hw; rows = omega (arith, s .pre .1 .few, s .pre .1 .taxa, s .pre .0 .few) },
+      refl,
+      refl,
+      omega arith,
+      (λ e v l. absurd (omega arith)),
     )
 
 parents-requires : tie.Need-parents-requires Inv-loop μ-loop
@@ -78,9 +86,32 @@ returns c =
 add-spent : tie.Need-add-spent Inv-loop μ-loop
 add-spent c = omega (arith, c .before .before .before .before .loop .inv .0 .sum, c .if2 .left)
 
+prepare-requires : tie.Need-prepare-requires Inv-loop μ-loop
+prepare-requires c κs =
+    let p = c .before .before .before in
+    let l = p .before .before .before .loop in
+    let s = p .before .before .before .before .before .before in
+    let a = s .args in (
+      s .pre .0,
+      omega (arith, l .inv .4, given p .taxa),
+      list-more (a .kind) (a .n) (a .entries .now) (a .bytes .now) (s .pre .0) (l .t) (p .before .if1 .taken) (l .inv .0 .well) _ (given p),
+      l .inv .2,
+      l .inv .3,
+      l .inv .5,
+    )
+
+add-from : tie.Need-add-from Inv-loop μ-loop
+add-from c =
+    let p = c .before .before .before .before in
+    let l = p .before .before .before .loop in
+    let s = p .before .before .before .before .before .before in
+    let a = s .args in
+    omega (arith, s .pre .0 .few, list-more (a .kind) (a .n) (a .entries .now) (a .bytes .now) (s .pre .0) (l .t) (p .before .if1 .taken) (l .inv .0 .well) _ (given p))
+
 add-taxon-requires : tie.Need-add-taxon-requires Inv-loop μ-loop
 add-taxon-requires c κs =
-    let p = c .before in
+    let ready = c .before .before in
+    let p = ready .before .before .before .before in
     let l = p .before .before .before .loop in
     let s = p .before .before .before .before .before .before in
     let a = s .args in
@@ -90,6 +121,8 @@ add-taxon-requires c κs =
         list-more (a .kind) (a .n) (a .entries .now) (a .bytes .now) (s .pre .0) (l .t) t (l .inv .0 .well) _ (given p),
         few p,
         list-up (a .kind) (a .n) (a .entries .now) (a .bytes .now) (s .pre .0) (l .t) t (l .inv .0 .well) _ (given p),
+        omega (arith, given p .taxa, l .inv .0 .well .one),
+        ready .prepare .ensures .2,
       ),
       list-room (a .kind) (a .n) (a .entries .now) (a .bytes .now) (s .pre .0) (l .t) t (l .inv .0 .well) _ (given p),
     )
@@ -97,7 +130,7 @@ add-taxon-requires c κs =
 -- one taxon more
 loop-less : tie.Need-loop-less Inv-loop μ-loop
 loop-less c =
-    let p = c .before .before in
+    let p = c .before .before .before .before .before .before .before in
     let l = p .before .before .before .loop in
     let s = p .before .before .before .before .before .before in
     let a = s .args in
@@ -107,7 +140,8 @@ loop-less c =
 
 loop-again : tie.Need-loop-again Inv-loop μ-loop
 loop-again c =
-    let p = c .before .before in
+    let ready = c .before .before .before in
+    let p = ready .before .before .before .before in
     let l = p .before .before .before .loop in
     let s = p .before .before .before .before .before .before in
     let a = s .args in
@@ -116,9 +150,13 @@ loop-again c =
     let more = c .add-taxon .ensures ∙ larger in (
       subst (λ (m : ℕ). Going (mannerBy (a .kind) (a .n) (a .entries .now) (a .bytes .now)) (a .n) (a .allowance) (a .s) (c .add-taxon .result) (l .left - m) (l .spent + m)) (sym (costs p))
           (going-turn (mannerBy (a .kind) (a .n) (a .entries .now) (a .bytes .now)) (a .n) (a .allowance) (a .s) (l .t) (l .left) (l .spent) (l .inv .0) t _ more
-          (omega (arith, costs p, c .before .if2 .left))
+          (omega (arith, costs p, ready .before .before .before .if2 .left))
           (again-well (a .kind) (a .n) (a .entries .now) (a .bytes .now) (s .pre .0) (l .t) t (l .inv .0 .well))),
       again-roomy (a .kind) (a .n) (a .entries .now) (a .bytes .now) (s .pre .0) (l .t) t (l .inv .0 .well) _ more,
+      ready .prepare .ensures .0,
+      ready .prepare .ensures .1,
+      omega (arith, given p .taxa, more-taxa (mannerBy (a .kind) (a .n) (a .entries .now) (a .bytes .now)) (a .n) (a .allowance) (a .s) (l .t) (l .left) (l .spent) (l .inv .0) t _ more),
+      ready .prepare .ensures .2 .matrix,
     )
 
 returns-2 : tie.Need-returns-2 Inv-loop μ-loop
@@ -139,6 +177,8 @@ grow-taxa-spec =
     add-cost
     returns
     add-spent
+    prepare-requires
+    add-from
     add-taxon-requires
     loop-less
     loop-again

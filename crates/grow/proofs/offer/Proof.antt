@@ -1,7 +1,6 @@
 -- `grow::offer` meets its contract. Assumes nothing.
-use Prim.Native.Nat.{ℕ, suc, _<_}
-use native.Mathlib.Numerals.{add-one}
-use mathlib.Core.Path.{_≡_, _∙_, ap}
+use Prim.Native.Nat.{suc, _<_}
+use mathlib.Core.Path.{_≡_}
 use borrow.Author.Needs.{needs}
 use native.Mathlib.Omega.{arith}
 use Rattle.statement.specs.Rows.{listIn}
@@ -10,19 +9,13 @@ use Rattle.grow.proofs.Laws.{offer-kept, offer-none, offer-room}
 use Rattle.grow.proofs.offer.Statement.{statement}
 use Rattle.grow.proofs.offer.Tie as tie
 
-add-try-split : tie.Need-add-try-split
-add-try-split c = search needs
-
 try-split-requires : tie.Need-try-split-requires
-try-split-requires c κs = let p = c .before .before .pre in (p .0 .0, omega arith, omega arith)
+try-split-requires c κs = c .before .before .pre .0
 
--- the trial's answer, with suc k for k + 1
 said : (c : tie.After-try-split)
     → let a = c .before .before .before .args in
     c .try-split .result ≡ trialBy (a .kind) (a .n) (a .entries .now) (a .bytes .now) (suc (a .k)) (a .k) (a .c) (a .w)
-said c =
-    let a = c .before .before .before .args in
-    c .try-split .ensures ∙ ap (λ (m : ℕ). trialBy (a .kind) (a .n) (a .entries .now) (a .bytes .now) m (a .k) (a .c) (a .w)) (add-one (a .k))
+said c = c .try-split .ensures
 
 -- there is room for a row that is kept
 room : (c : tie.Then1) → c .before .before .before .before .args .rows < 125
@@ -63,7 +56,6 @@ pub offer-spec : {M : Type 1} → statement M
 offer-spec =
     tie.close
     (tie.spec
-    add-try-split
     try-split-requires
     mul-clusters
     element-write-clusters

@@ -12,23 +12,23 @@ use Rattle.grow.proofs.pass.Statement.{statement}
 use Rattle.grow.proofs.pass.Tie as tie
 
 abbrev Inv-loop : tie.InvT-loop
-Inv-loop kind n entries bytes k b rows clusters₀ weights₀ old count₀ i₀ olds clusters weights count i =
+Inv-loop kind n entries bytes k near lone sets b rows clusters₀ weights₀ old count₀ i₀ olds clusters weights count i =
     Passing (trialBy kind n entries bytes (suc k) k) b old (listIn (suc k) rows clusters₀ weights₀) (listIn (suc k) count clusters weights) i
 
 abbrev μ-loop : tie.MeasureT-loop
-μ-loop kind n entries bytes k b rows clusters₀ weights₀ old count₀ i₀ olds clusters weights count i = olds - i
+μ-loop kind n entries bytes k near lone sets b rows clusters₀ weights₀ old count₀ i₀ olds clusters weights count i = olds - i
 
-roomy : (c : tie.Start Inv-loop μ-loop) → Roomy (c .args .t6)
+roomy : (c : tie.Start Inv-loop μ-loop) → Roomy (c .args .t9)
 roomy c =
-    let hc : length (c .args .t6 .clusters) ≡ 125 = search needs in
-    let hw : length (c .args .t6 .weights) ≡ 125 = search needs in
-    record { clusters = hc; weights = hw; rows = c .pre .0 .2 }
+    let hc : length (c .args .t9 .clusters) ≡ 125 = search needs in
+    let hw : length (c .args .t9 .weights) ≡ 125 = search needs in
+    record { clusters = hc; weights = hw; rows = c .pre .0 .4 }
 
 loop-holds : tie.Need-loop-holds Inv-loop μ-loop
 loop-holds c =
     let s = c .before .before in
     let a = s .args in
-    passing-from (trialBy (a .kind) (a .n) (a .entries .now) (a .bytes .now) (suc (a .k)) (a .k)) (a .b) (a .t6) (listIn (suc (a .k)) (a .rows) (a .clusters .now) (a .weights .now)) (s .pre .1 .1)
+    passing-from (trialBy (a .kind) (a .n) (a .entries .now) (a .bytes .now) (suc (a .k)) (a .k)) (a .b) (a .t9) (listIn (suc (a .k)) (a .rows) (a .clusters .now) (a .weights .now)) (s .pre .1 .1)
 
 mul-offer : tie.Need-mul-offer Inv-loop μ-loop
 mul-offer c = search needs
@@ -50,8 +50,8 @@ offer-requires c κs =
     let l = c .before .before .before .before .before in
     let s = l .before .before .before in
     let a = s .args in (
-      (s .pre .0 .0, s .pre .0 .1),
-      passing-room (trialBy (a .kind) (a .n) (a .entries .now) (a .bytes .now) (suc (a .k)) (a .k)) (a .b) (a .t6) (listIn (suc (a .k)) (a .rows) (a .clusters .now) (a .weights .now))
+      (s .pre .0 .0, s .pre .0 .1, s .pre .0 .2, s .pre .0 .3),
+      passing-room (trialBy (a .kind) (a .n) (a .entries .now) (a .bytes .now) (suc (a .k)) (a .k)) (a .b) (a .t9) (listIn (suc (a .k)) (a .rows) (a .clusters .now) (a .weights .now))
           (listIn (suc (a .k)) (l .loop .count) (l .loop .clusters) (l .loop .weights)) (l .loop .i) (roomy s) (c .before .before .before .before .loop-test .taken) (l .loop .inv),
     )
 
@@ -66,7 +66,7 @@ loop-again c =
     let l = c .before .before .before .before .before .before in
     let s = l .before .before .before in
     let a = s .args in
-    passing-turn (trialBy (a .kind) (a .n) (a .entries .now) (a .bytes .now) (suc (a .k)) (a .k)) (a .b) (a .t6) (listIn (suc (a .k)) (a .rows) (a .clusters .now) (a .weights .now))
+    passing-turn (trialBy (a .kind) (a .n) (a .entries .now) (a .bytes .now) (suc (a .k)) (a .k)) (a .b) (a .t9) (listIn (suc (a .k)) (a .rows) (a .clusters .now) (a .weights .now))
     (listIn (suc (a .k)) (l .loop .count) (l .loop .clusters) (l .loop .weights)) (l .loop .i) (roomy s) (c .before .before .before .before .before .loop-test .taken) (l .loop .inv) _ (c .offer .ensures)
 
 returns : tie.Need-returns Inv-loop μ-loop
@@ -74,8 +74,8 @@ returns c =
     let l = c .before in
     let s = l .before .before .before in
     let a = s .args in
-    let e : l .loop .i ≡ a .t6 .rows = omega (arith, l .loop .inv .low) in
-    passing-end (trialBy (a .kind) (a .n) (a .entries .now) (a .bytes .now) (suc (a .k)) (a .k)) (a .b) (a .t6) (listIn (suc (a .k)) (a .rows) (a .clusters .now) (a .weights .now))
+    let e : l .loop .i ≡ a .t9 .rows = omega (arith, l .loop .inv .low) in
+    passing-end (trialBy (a .kind) (a .n) (a .entries .now) (a .bytes .now) (suc (a .k)) (a .k)) (a .b) (a .t9) (listIn (suc (a .k)) (a .rows) (a .clusters .now) (a .weights .now))
     (listIn (suc (a .k)) (l .loop .count) (l .loop .clusters) (l .loop .weights)) (l .loop .i) (roomy s) e (l .loop .inv)
 
 pub pass-spec : {M : Type 1} → statement M

@@ -1,29 +1,36 @@
--- `matrix::score_of` meets its contract: three sums below 2 ^ 33, and one exact difference. Assumes nothing.
-use Prim.Native.Nat.{_+_, _^_, _<_}
-use native.Mathlib.Omega.{arith}
+-- `matrix::score_of` meets its contract: three sums, and one exact difference. Assumes nothing.
 use mathlib.Core.Path.{_∙_}
 use mir.Syntax.{w64}
 use mir.ValLaws.{toZ-ofZ}
-use borrow.Author.Needs.{needs}
+use borrow.Author.Needs.{needs, sfits-of}
 use Rattle.statement.specs.Matrix.{distance}
-use Rattle.matrix.proofs.Signs.{difference, difference-fits, score-is}
+use Rattle.matrix.proofs.Signs.{score-is}
 use Rattle.matrix.proofs.score_of.Statement.{statement}
 use Rattle.matrix.proofs.score_of.Tie as tie
 
-between-requires : tie.Need-between-requires
-between-requires c κs = search needs
+at-requires : tie.Need-at-requires
+at-requires c κs = search needs
 
-between-requires-2 : tie.Need-between-requires-2
-between-requires-2 c κs = search needs
+at-requires-2 : tie.Need-at-requires-2
+at-requires-2 c κs = search needs
 
 add-wy-xz : tie.Need-add-wy-xz
 add-wy-xz c = search needs
 
-between-requires-3 : tie.Need-between-requires-3
-between-requires-3 c κs = search needs
+at-requires-3 : tie.Need-at-requires-3
+at-requires-3 c κs = search needs
+
+at-requires-4 : tie.Need-at-requires-4
+at-requires-4 c κs = search needs
 
 add-wz-xy : tie.Need-add-wz-xy
 add-wz-xy c = search needs
+
+at-requires-5 : tie.Need-at-requires-5
+at-requires-5 c κs = search needs
+
+at-requires-6 : tie.Need-at-requires-6
+at-requires-6 c κs = search needs
 
 add-wx-yz : tie.Need-add-wx-yz
 add-wx-yz c = search needs
@@ -31,42 +38,36 @@ add-wx-yz c = search needs
 least-requires : tie.Need-least-requires
 least-requires c κs = search needs
 
-cast-result : tie.Need-cast-result
-cast-result c = search needs
-
-cast-result-2 : tie.Need-cast-result-2
-cast-result-2 c = search needs
-
-small : (c : tie.After-least) → (c .least .result < 2 ^ 63) × (c .before .before .before .before .before .args .wx + c .before .between3 .result < 2 ^ 63)
-small c = omega arith
-
-sub-result : tie.Need-sub-result
-sub-result c = difference-fits _ _ (small c .0) (small c .1)
+less-requires : tie.Need-less-requires
+less-requires c κs = search needs
 
 returns : tie.Need-returns
 returns c =
-    let wz = c .before .before in
+    let yz = c .before .before in
+    let wx = yz .before in
+    let xy = wx .before in
+    let wz = xy .before in
     let xz = wz .before in
-    let s = xz .before .before in
-    let a = s .args in
-    let read = s .pre .1 in
-    toZ-ofZ w64 _ (sub-result c)
-    ∙ difference _ _ (small c .0) (small c .1)
-    ∙ score-is (distance (a .n) (a .entries .now)) (a .w) (a .x) (a .y) (a .z) (read .1 .0) (xz .between .ensures .0)
-    (wz .between2 .ensures .0) (read .2 .0) (read .0 .0) (c .before .between3 .ensures .0) (c .least .ensures)
+    let wy = xz .before in
+    let a = wy .before .before .args in
+    toZ-ofZ w64 _ (sfits-of (c .less .ok))
+    ∙ c .less .ensures
+    ∙ score-is (distance (a .n) (a .entries .now)) (a .w) (a .x) (a .y) (a .z) (wy .at .ensures .0) (xz .at2 .ensures .0) (wz .at3 .ensures .0)
+    (xy .at4 .ensures .0) (wx .at5 .ensures .0) (yz .at6 .ensures .0) (c .before .least .ensures)
 
 pub score-of-spec : {M : Type 1} → statement M
 score-of-spec =
     tie.close
     (tie.spec
-    between-requires
+    at-requires
+    at-requires-2
     add-wy-xz
-    between-requires-2
+    at-requires-3
+    at-requires-4
     add-wz-xy
-    between-requires-3
+    at-requires-5
+    at-requires-6
     add-wx-yz
     least-requires
-    cast-result
-    cast-result-2
-    sub-result
+    less-requires
     returns)

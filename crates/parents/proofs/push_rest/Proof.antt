@@ -4,7 +4,7 @@ use mathlib.Core.Path.{_≡_}
 use lib.ListN.{length}
 use Rattle.statement.specs.Rows.{listIn}
 use Rattle.splits_list.proofs.Laws.{Roomy}
-use Rattle.parents.proofs.Putting.{Copying, copying-from, copying-room, copying-turn, copying-end}
+use Rattle.parents.proofs.Laws.{Copying, copying-from, copying-room, copying-turn, copying-end}
 use borrow.Author.Needs.{needs}
 use Rattle.parents.proofs.push_rest.Statement.{statement}
 use Rattle.parents.proofs.push_rest.Tie as tie

@@ -1,0 +1,3 @@
+-- The root of the specs.
+pub mod Lone
+pub mod Lowering

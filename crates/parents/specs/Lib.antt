@@ -1,0 +1,2 @@
+-- The root of the specs.
+pub mod Merging

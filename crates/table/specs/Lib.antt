@@ -1,2 +1,0 @@
--- The root of the specs.
-pub mod Four
