@@ -51,10 +51,11 @@ fails-zero n d k a c w fails = go (decLt 0 (pairTrial d k a c w))
 -- THE NEAREST neighbour
 module _ (d : ℕ → ℕ → ℕ) (k : ℕ) where
   pub nearest-one : Nearest d k 1 0
-  nearest-one = record { below = omega arith; least = λ i l. let e : i ≡ 0 = omega arith in rw e (le-refl (d k 0)) }
+  nearest-one = record { below = omega arith; least = λ i l. let e : i ≡ 0 = omega arith in rw e (le-refl (d k 0)); lowest = λ i l. absurd (omega arith) }
 
-  pub nearest-turn : (m near r : ℕ) → Nearest d k m near → r < m + 1 → d k r ≤ d k near → d k r ≤ d k m → Nearest d k (m + 1) r
-  nearest-turn m near r h l p q = record { below = l; least = least }
+  pub nearest-turn : (m near r : ℕ) → Nearest d k m near → r < m + 1 → d k r ≤ d k near → d k r ≤ d k m
+      → ((i : ℕ) → i < r → d k r < d k i) → Nearest d k (m + 1) r
+  nearest-turn m near r h l p q f = record { below = l; least = least; lowest = f }
     where
       least : (i : ℕ) → i < m + 1 → d k r ≤ d k i
       least i li = go (decLt i m)

@@ -9,10 +9,11 @@ use Rattle.statement.specs.Cluster.{bit, Pair}
 use Rattle.statement.specs.Matrix.{score}
 use Rattle.statement.proofs.Parts.{Parted}
 
--- r is the nearest to k of the first m taxa
+-- r is the nearest to k of the first m taxa, the lowest of several
 pub record Nearest (d : ℕ → ℕ → ℕ) (k m r : ℕ) : Type 0 where
   pub below : r < m
   pub least : (i : ℕ) → i < m → d k r ≤ d k i
+  pub lowest : (i : ℕ) → i < r → d k r < d k i
 
 -- the first m listed taxa are on the other side than a
 abbrev pub Others : ℕ → ℕ → ℕ → List ℕ → ℕ → Type 0

@@ -159,7 +159,7 @@ unfolding withSingles fillTo
 clusters-singles most zero rows = refl
 clusters-singles most (suc zero) rows = refl
 clusters-singles most (suc (suc k)) rows =
-    clusters-put (row (2 ^ suc k) most) (withSingles most (suc k) rows) ∙ ap (ins (2 ^ suc k)) (clusters-singles most (suc k) rows)
+    clusters-put _ (withSingles most (suc k) rows) ∙ ap (ins (2 ^ suc k)) (clusters-singles most (suc k) rows)
 
 pub clusters-trivial : (most k : ℕ) (rows : List Row) → clusters (withTrivial most k rows) ≡ fill k (clusters rows)
 unfolding withTrivial fill
