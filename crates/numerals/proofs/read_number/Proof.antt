@@ -1,23 +1,25 @@
--- `numerals::number_at` meets its contract. The number so far, with what remains of the text, is the number at the place, as far as it counts. Assumes nothing.
-use Prim.Native.Nat.{_-_, _≤_, min}
+-- `numerals::read_number` meets its contract. The number so far, with what remains of the text, is the number at the place, as far as it counts; and the
+-- digits passed so far, with those that remain, are all of its digits. Assumes nothing.
+use Prim.Native.Nat.{_+_, _-_, _≤_, min}
 use native.Mathlib.Omega.{arith}
 use mathlib.Core.Path.{_≡_, refl, sym, _∙_}
 use borrow.Author.Needs.{needs}
 use borrow.Author.Tests.{not-true, not-false}
 use lib.ListN.{length, drop}
-use Rattle.numerals.specs.Numerals.{onFrom, numberAt}
-use Rattle.numerals.proofs.Laws.{tooLarge, number-on, number-ends, text-ends}
-use Rattle.numerals.proofs.number_at.Statement.{statement}
-use Rattle.numerals.proofs.number_at.Tie as tie
+use Rattle.statement.specs.Decimal.{onFrom, span}
+use Rattle.numerals.specs.Numerals.{numberAt}
+use Rattle.numerals.proofs.Laws.{tooLarge, number-on, number-ends, text-ends, span-on, span-ends, span-none}
+use Rattle.numerals.proofs.read_number.Statement.{statement}
+use Rattle.numerals.proofs.read_number.Tie as tie
 
 abbrev Inv-loop : tie.InvT-loop
-Inv-loop text p v₀ i₀ v i = (v ≤ tooLarge) × (min (onFrom v (drop i text)) tooLarge ≡ min (numberAt text p) tooLarge)
+Inv-loop text p v₀ i₀ v i = (v ≤ tooLarge) × (min (onFrom v (drop i text)) tooLarge ≡ min (numberAt text p) tooLarge) × (i + span (drop i text) ≡ p + span (drop p text))
 
 abbrev μ-loop : tie.MeasureT-loop
 μ-loop text p v₀ i₀ v i = length text - i
 
 loop-holds : tie.Need-loop-holds Inv-loop μ-loop
-loop-holds c = (omega arith, refl)
+loop-holds c = (omega arith, refl, refl)
 
 shared-slice-read-is-digit : tie.Need-shared-slice-read-is-digit Inv-loop μ-loop
 shared-slice-read-is-digit c = search needs
@@ -31,7 +33,9 @@ returns c =
     let l = turn .before .loop in
     let e = number-ends (turn .before .before .before .args .text .now) (l .i) (l .v) (turn .loop-test .taken)
     (sym (c .before .is-digit .ensures) ∙ not-true _ (c .if1 .taken)) in
-    omega (arith, e, l .inv .0, l .inv .1)
+    let none = span-ends (turn .before .before .before .args .text .now) (l .i) (l .v) (turn .loop-test .taken)
+    (sym (c .before .is-digit .ensures) ∙ not-true _ (c .if1 .taken)) in
+    (omega (arith, e, l .inv .0, l .inv .1), omega (arith, none, l .inv .2))
 
 shared-slice-read-with-digit : tie.Need-shared-slice-read-with-digit Inv-loop μ-loop
 shared-slice-read-with-digit c = search needs
@@ -56,16 +60,18 @@ loop-again c =
       omega (arith, c .with-digit .ensures),
       rw (c .with-digit .ensures)
           (number-on text (l .i) (l .v) (turn .loop-test .taken) (sym (tested .is-digit .ensures) ∙ not-false _ (c .before .before .if1 .left)) ∙ l .inv .1),
+      omega (arith, l .inv .2, span-on text (l .i) (l .v) (turn .loop-test .taken) (sym (tested .is-digit .ensures) ∙ not-false _ (c .before .before .if1 .left))),
     )
 
 returns-2 : tie.Need-returns-2 Inv-loop μ-loop
 returns-2 c =
     let l = c .before .loop in
     let e = text-ends (c .before .before .before .args .text .now) (l .i) (l .v) (c .loop-test .left) in
-    omega (arith, e, l .inv .0, l .inv .1)
+    let none = span-none (c .before .before .before .args .text .now) (l .i) (l .v) (c .loop-test .left) in
+    (omega (arith, e, l .inv .0, l .inv .1), omega (arith, none, l .inv .2))
 
-pub number-at-spec : {M : Type 1} → statement M
-number-at-spec =
+pub read-number-spec : {M : Type 1} → statement M
+read-number-spec =
     tie.close
     (tie.spec
     Inv-loop

@@ -1,0 +1,5 @@
+pub mod Numbers
+pub mod Sizes
+pub mod Parses
+pub mod Unique
+pub mod Figures
