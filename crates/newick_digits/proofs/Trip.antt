@@ -5,14 +5,11 @@ use mathlib.Core.List.{List, [], _∷_, _++_, append-assoc}
 use Prim.Native.Nat.{ℕ, zero, suc, _+_, _-_, _*_, _/_, _%_, _≤_, _<_}
 use native.Mathlib.Omega.{arith}
 use native.Mathlib.Decide.{decLt}
-use lib.Dec.{ltb}
 use borrow.Author.Tests.{lt-ltb, le-ltb}
-use Rattle.statement.specs.Decimal.{digit}
+use Rattle.statement.specs.Decimal.{digit, decimal, decimalBy, onFrom}
 use Rattle.newick_text.proofs.Laws.{digit-yes}
 use Rattle.statement.specs.Sentence.{Digits, none, more, Numeral, nought, lead, digitsText, numeralText}
-use Rattle.statement.specs.Decimal.{decimal, decimalBy}
 use Rattle.newick_digits.proofs.Decimal.{decimal-one, decimal-more}
-use Rattle.statement.specs.Decimal.{onFrom}
 
 abbrev AllDigits : List ℕ → Type 0
 AllDigits [] = Unit

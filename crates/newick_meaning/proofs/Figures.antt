@@ -1,24 +1,18 @@
 -- FIGURES: what the definitions say of some texts. Assumes nothing.
-use Prim.Native.Nat.{ℕ, _+_, _<_}
+use Prim.Native.Nat.{ℕ}
 use native.Mathlib.Omega.{arith}
-use mathlib.Core.Path.{_≡_, refl, sym, _∙_, ap}
+use mathlib.Core.Path.{_≡_, refl, ap}
 use mathlib.Core.Bool.{true}
-use mathlib.Core.List.{List, [], _∷_}
-use Rattle.statement.specs.declared.Outcome.{Outcome}
-use Rattle.statement.specs.declared.Outcome.the-variants.{Done, Refused}
+use mathlib.Core.List.{[], _∷_}
+use Rattle.statement.specs.declared.Outcome.the-variants.{Refused}
 use Rattle.statement.specs.Cluster.{groupOf}
 use Rattle.statement.specs.Lowest.{lowestFrom}
-use Rattle.statement.specs.Rows.{Row, row, rowsOf, listOf, filled}
+use Rattle.statement.specs.Rows.{row, rowsOf, listOf, filled}
 use Rattle.statement.specs.Tree.{insertRow, sortRows}
-use Rattle.statement.specs.Refusals.{outcomeOf}
-use Rattle.statement.specs.Decimal.{digit}
-use Rattle.newick_text.specs.Automaton.{start, run, bad, good}
-use Rattle.statement.specs.Sentence.{Digits, none, Numeral, nought, lead, Children, leaf, group, leafThen, groupThen}
-use Rattle.statement.specs.Decimal.{onFrom}
-use Rattle.statement.specs.Sentence.{size, taxaOf, leavesAt, edgesAt, splitMade, keptEdges}
-use Rattle.statement.specs.Sentence.{outside}
-use Rattle.statement.specs.Refusals.{placesOf, strays, twins, missing}
-use Rattle.statement.specs.Sentence.{clustersOf}
+use Rattle.statement.specs.Refusals.{outcomeOf, placesOf, strays, twins, missing}
+use Rattle.statement.specs.Decimal.{digit, onFrom}
+use Rattle.newick_text.specs.Automaton.{run}
+use Rattle.statement.specs.Sentence.{none, Numeral, nought, lead, leaf, group, leafThen, groupThen, size, taxaOf, leavesAt, edgesAt, splitMade, keptEdges, clustersOf}
 use Rattle.statement.specs.Calls.{readingOf}
 use Rattle.newick_meaning.specs.Parse.{readNewick}
 use Rattle.newick_meaning.proofs.Unique.{sentence-read}

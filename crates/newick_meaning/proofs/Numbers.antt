@@ -2,15 +2,12 @@
 use mathlib.Core.Path.{_≡_, refl, ap, sym, _∙_}
 use mathlib.Core.Bool.{Bool, true, false, cond}
 use mathlib.Core.List.{List, [], _∷_}
-use Prim.Native.Nat.{ℕ, suc, _+_, _-_, _*_, _≤_, _<_, min}
+use Prim.Native.Nat.{ℕ, suc, _+_, _-_, _*_, _≤_, _<_}
 use native.Mathlib.Omega.{arith}
-use native.Mathlib.Numerals.{add-one}
 use lib.ListN.{length, drop, getD, length-drop}
 use lib.Seq.{drop-drop, getD-drop, drop-cons}
-use Rattle.statement.specs.Decimal.{digit}
-use Rattle.statement.specs.Sentence.{Digits, none, more, Numeral, nought, lead, digitsText, numeralText}
-use Rattle.statement.specs.Decimal.{onFrom, span}
-use Rattle.statement.specs.Sentence.{value, width}
+use Rattle.statement.specs.Decimal.{digit, onFrom, span}
+use Rattle.statement.specs.Sentence.{Digits, none, more, Numeral, nought, lead, digitsText, numeralText, value, width}
 
 no-digit : (v : ℕ) (c : ℕ) (s : List ℕ) → digit c ≡ false → (onFrom v (c ∷ s) ≡ v) × (span (c ∷ s) ≡ 0)
 unfolding onFrom span

@@ -5,10 +5,9 @@ use mathlib.Core.Path.{_≡_, refl, sym, _∙_, ap, subst}
 use mathlib.Core.List.{List, [], _∷_}
 use lib.ListN.{length, drop, length-drop}
 use Rattle.newick_text.specs.Automaton.{State, Step, stop, end, move, Out, bad, good, start, next, pick, run}
-use Rattle.statement.specs.Sentence.{Children, childrenText, Fits, Parses}
+use Rattle.statement.specs.Sentence.{Children, childrenText, Fits, Parses, outside, sentence}
 use Rattle.newick_text.proofs.Sound.{sound}
 use Rattle.newick_text.proofs.FirstBad.{first-bad}
-use Rattle.statement.specs.Sentence.{Parsed, outside, sentence}
 use Rattle.newick_meaning.specs.Parse.{parsedBy, parsed}
 
 bad-good : {X : Type 0} {a b : List ℕ} → bad a ≡ good b → X

@@ -1,34 +1,27 @@
 -- A TEXT IS READ IN ONE WAY: any derivation of it gives the same leaves, edges and reply. Assumes nothing.
-use Prim.Native.Nat.{ℕ, zero, suc, _+_, _≤_, _<_}
+use Prim.Native.Nat.{ℕ, suc, _+_}
 use native.Mathlib.Omega.{arith}
 use mathlib.Core.Path.{_≡_, refl, sym, _∙_, ap, ap₂}
-use mathlib.Core.Bool.{Bool, true, false, cond, not}
+use mathlib.Core.Bool.{false, cond, not}
 use mathlib.Core.List.{List, [], _∷_, _++_, map}
 use lib.Dec.{ltb, eqb}
-use lib.ListN.{length, drop}
+use lib.ListN.{drop}
 use Rattle.statement.specs.declared.Reading.{Reading}
 use Rattle.statement.specs.declared.Outcome.the-variants.{Done}
 use Rattle.statement.specs.Matrix.{weightLimit}
 use Rattle.statement.specs.Lowest.{somewhere}
 use Rattle.statement.specs.Rows.{listOf}
 use Rattle.statement.specs.Tree.{sortRows}
-use Rattle.statement.specs.Refusals.{Check, outcomeOf, taxaOff}
-use Rattle.statement.specs.Calls.{unlessRefused, refusedReading}
-use Rattle.statement.specs.Decimal.{digit}
+use Rattle.statement.specs.Refusals.{outcomeOf, taxaOff, placesOf, strays, twins, missing, badAt}
+use Rattle.statement.specs.Calls.{unlessRefused, refusedReading, readingOf}
+use Rattle.statement.specs.Decimal.{digit, onFrom, span}
 use Rattle.newick_text.specs.Automaton.{start, run}
-use Rattle.statement.specs.Sentence.{Numeral, nought, lead, Children, leaf, group, leafThen, groupThen, digitsText, numeralText, childrenText, Fits}
+use Rattle.statement.specs.Sentence.{Numeral, nought, lead, Children, leaf, group, leafThen, groupThen, numeralText, childrenText, Fits, Leaf, Edge, edgeAt, value, width, size, among, taxaOf, leavesAt, edgesAt, splitMade, keptEdges, pastLeaf, pastNode, Parsed, outside, sentence, Parses, rowOf}
 use Rattle.statement.specs.Grammar.{FirstBad}
 use Rattle.newick_text.proofs.Complete.{complete, not-open}
 use Rattle.newick_text.proofs.FirstBad.{one-place}
 use Rattle.newick_text.proofs.Productions.{by-productions}
-use Rattle.statement.specs.Decimal.{onFrom, span}
-use Rattle.statement.specs.Sentence.{Leaf, leafAt, Edge, edgeAt, value, width, size, among, taxaOf, leavesAt, edgesAt, splitMade, keptEdges, pastLeaf, pastNode}
-use Rattle.statement.specs.Sentence.{Parsed, outside, sentence, Parses}
-use Rattle.newick_meaning.specs.Parse.{parsed}
-use Rattle.statement.specs.Refusals.{placesOf, strays, twins, missing, badAt}
-use Rattle.statement.specs.Sentence.{rowOf}
-use Rattle.statement.specs.Calls.{readingOf}
-use Rattle.newick_meaning.specs.Parse.{readNewick}
+use Rattle.newick_meaning.specs.Parse.{parsed, readNewick}
 use Rattle.newick_meaning.proofs.Numbers.{num-value, num-span, num-drop}
 use Rattle.newick_meaning.proofs.Sizes.{size-leaf, size-node, size-leaf2, size-node2}
 use Rattle.newick_meaning.proofs.Parses.{parsed-good, text-parses}

@@ -1,12 +1,11 @@
 -- Every text of the grammar is accepted.
-use mathlib.Core.Path.{_≡_, refl, ap, sym, _∙_}
-use mathlib.Core.Bool.{Bool, true, false, cond}
-use mathlib.Core.List.{List, [], _∷_, _++_}
-use Prim.Native.Nat.{ℕ, zero, suc, _+_, _-_, _≤_, _<_}
+use mathlib.Core.Path.{_≡_, refl, _∙_}
+use mathlib.Core.Bool.{Bool, true, false}
+use mathlib.Core.List.{List, _∷_}
+use Prim.Native.Nat.{ℕ, zero, suc, _-_}
 use native.Mathlib.Omega.{arith}
-use lib.Dec.{ltb, leb, eqb}
-use borrow.Author.Tests.{lt-ltb, le-ltb, eq-eqb, ne-eqb}
-use Rattle.newick_text.specs.Automaton.{Use, taxon, weight, State, start, want, some, over, close, Step, stop, end, move, Out, bad, good, first, after, next, pick, run}
+use borrow.Author.Tests.{ne-eqb}
+use Rattle.newick_text.specs.Automaton.{Use, taxon, weight, State, start, want, some, over, close, move, good, next, run}
 use Rattle.statement.specs.Decimal.{digit}
 use Rattle.statement.specs.Sentence.{Digits, none, more, Numeral, nought, lead, Children, leaf, group, leafThen, groupThen, digitsText, numeralText, childrenText, Fits}
 

@@ -4,11 +4,11 @@ use mathlib.Core.Bool.{Bool, true, false, cond}
 use mathlib.Core.List.{List, [], _∷_, _++_, append-assoc, append-nil}
 use Prim.Native.Nat.{ℕ, zero, suc, _+_, _-_, _≤_, _<_}
 use native.Mathlib.Omega.{arith}
-use lib.Dec.{ltb, leb, eqb}
+use lib.Dec.{eqb}
 use lib.ListN.{length, take, drop, getD, length-append, take-append-drop}
 use lib.Seq.{drop-cons, take-suc, append-snoc, take-take}
 use native.Mathlib.Decide.{decLt}
-use Rattle.newick_text.specs.Automaton.{Use, taxon, weight, State, start, want, some, over, close, Step, stop, end, move, Out, bad, good, opened, closed, first, after, next, pick, run, whole, placeOf}
+use Rattle.newick_text.specs.Automaton.{Use, taxon, weight, State, start, want, some, over, close, Step, stop, end, move, bad, good, opened, closed, first, after, next, pick, run, whole}
 use Rattle.statement.specs.Decimal.{digit}
 use Rattle.statement.specs.Sentence.{Children, childrenText, Fits}
 use Rattle.statement.specs.Grammar.{IsSentence, Viable, FirstBad}

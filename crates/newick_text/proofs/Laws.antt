@@ -1,18 +1,17 @@
 -- Laws of the automaton's steps, for the proofs of the code.
 use mathlib.Core.Path.{_≡_, refl, ap, sym, _∙_}
-use mathlib.Core.Bool.{Bool, true, false, cond}
-use mathlib.Core.List.{List, [], _∷_, _++_}
+use mathlib.Core.Bool.{true, false}
+use mathlib.Core.List.{List}
 use Prim.Native.Nat.{ℕ, zero, suc, _+_, _-_, _≤_, _<_}
 use native.Mathlib.Numerals.{sub-one}
 use native.Mathlib.Decide.{decLt}
 use native.Mathlib.Omega.{arith}
-use lib.Dec.{ltb, leb, eqb}
 use lib.ListN.{length, drop, getD, drop-of-length-le, List·getD-eq-default}
 use lib.Seq.{drop-cons}
-use borrow.Author.Tests.{lt-ltb, le-ltb, eq-eqb, ne-eqb}
+use borrow.Author.Tests.{lt-ltb, le-ltb, ne-eqb}
 use Rattle.newick_text.specs.declared.Took.{Took}
 use Rattle.newick_text.specs.declared.Took.the-variants.{Past, Bad}
-use Rattle.newick_text.specs.Automaton.{Use, taxon, weight, State, start, want, some, over, close, Step, stop, end, move, Out, bad, good, opened, closed, first, after, next, pick, run, never, inside, Colon, ran, whole, placeOf, law-move, law-stop, law-good}
+use Rattle.newick_text.specs.Automaton.{Use, taxon, weight, State, start, want, some, over, close, stop, end, move, bad, good, opened, first, next, run, never, inside, Colon, ran, whole, placeOf, law-move, law-stop, law-good}
 use Rattle.statement.specs.Decimal.{digit}
 
 pub same-next : (t : List ℕ) (at : ℕ) (q q′ : State) → next q (getD t at 256) ≡ next q′ (getD t at 256) → run (drop at t) q ≡ run (drop at t) q′

@@ -2,9 +2,7 @@
 use Prim.Native.Nat.{ℕ, zero, suc}
 use mathlib.Core.Path.{_≡_, refl, sym, _∙_, ap, subst}
 use mathlib.Core.Logic.{_↔_}
-use mathlib.Core.Bool.{true}
-use mathlib.Core.List.{List, [], _∷_, _++_, append-assoc, append-nil}
-use Rattle.statement.specs.Decimal.{digit}
+use mathlib.Core.List.{List, [], _∷_, _++_, append-assoc}
 use Rattle.statement.specs.Grammar.{Symbol, TEXT, GROUP, CHILDREN, CHILD, NUMBER, DIGITS, Derives, whole, brackets, last-child, more-children, a-leaf, a-group, zero-alone, no-zero, no-digit, a-digit}
 use Rattle.newick_text.specs.Automaton.{start, good, run}
 use Rattle.statement.specs.Sentence.{Digits, none, more, Numeral, nought, lead, Children, leaf, group, leafThen, groupThen, digitsText, numeralText, childrenText, Fits}

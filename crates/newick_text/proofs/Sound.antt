@@ -1,17 +1,16 @@
 -- Every accepted text is one of the grammar's.
 use mathlib.Core.Path.{_≡_, refl, ap, sym, _∙_}
 use mathlib.Core.Logic.{_⊎_, inl, inr, ⊎-elim}
-use mathlib.Core.Bool.{Bool, true, false, cond}
-use mathlib.Core.List.{List, [], _∷_, _++_}
-use Prim.Native.Nat.{ℕ, zero, suc, _+_, _-_, _≤_, _<_}
+use mathlib.Core.Bool.{Bool, true, false}
+use mathlib.Core.List.{List, [], _∷_}
+use Prim.Native.Nat.{ℕ, zero, suc, _-_}
 use native.Mathlib.Decide.{ℕ-discrete}
 use native.Mathlib.Omega.{arith}
-use lib.Dec.{ltb, leb, eqb}
 use borrow.Author.Tests.{ne-eqb}
-use Rattle.newick_text.specs.Automaton.{Use, taxon, weight, State, start, want, some, over, close, Step, stop, end, move, Out, bad, good, first, after, next, pick, run}
+use Rattle.newick_text.specs.Automaton.{taxon, weight, State, start, want, some, over, close, stop, move, bad, good, next, run}
 use Rattle.statement.specs.Decimal.{digit}
 use Rattle.statement.specs.Sentence.{Digits, none, more, Numeral, nought, lead, Children, leaf, group, leafThen, groupThen, digitsText, numeralText, childrenText, Fits}
-use Rattle.newick_text.proofs.Complete.{to, ended, not-open}
+use Rattle.newick_text.proofs.Complete.{to, ended}
 
 -- what closes the brackets around a list of children: for each, its weight, and the children after it
 pub data Up : Type 0 where

@@ -1,15 +1,13 @@
 -- The next place that holds a number, and the taxon that stands for a vertex without brackets. Assumes nothing.
-use Prim.Native.Nat.{ℕ, zero, suc, _+_, _-_, _≤_, _<_}
+use Prim.Native.Nat.{ℕ, _+_, _-_, _≤_, _<_}
 use native.Mathlib.Omega.{arith}
-use mathlib.Core.Path.{_≡_, refl, sym, _∙_, ap, ap₂}
-use mathlib.Core.Logic.{_↔_}
-use mathlib.Core.Bool.{Bool, true, false, cond, _&&_}
-use mathlib.Core.List.{List, [], _∷_, _++_, map}
-use lib.Dec.{ltb, eqb}
+use mathlib.Core.Path.{_≡_, sym, _∙_, ap}
+use mathlib.Core.List.{List, [], _∷_}
+use lib.Dec.{eqb}
 use lib.ListN.{length, getD}
 use borrow.Author.Tests.{eq-eqb}
-use Rattle.statement.proofs.Tests.{less-is, same-is, both-is, fails-is}
-use Rattle.statement.specs.NewickText.{Shape, thoseFrom, homed, children, unbracketed}
+use Rattle.statement.proofs.Tests.{fails-is}
+use Rattle.statement.specs.NewickText.{Shape, thoseFrom, homed, children}
 use Rattle.newick_list.proofs.Room.{alone-is}
 use Rattle.newick_list.proofs.Those.{those-take, those-end}
 use Rattle.newick_vertex.specs.Arrays.{having, shapeIn, Next, Lone}

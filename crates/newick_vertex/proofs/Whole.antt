@@ -1,14 +1,14 @@
 -- The text of a vertex by the arrays that hold the tree: one taxon, or what stands between its brackets. Assumes nothing.
 use Prim.Native.Nat.{ℕ, _+_, _≤_, _<_}
 use native.Mathlib.Omega.{arith}
-use mathlib.Core.Path.{_≡_, refl, sym, _∙_, ap, ap₂}
-use mathlib.Core.Bool.{Bool, true, false, cond}
+use mathlib.Core.Path.{_≡_, sym, _∙_, ap, ap₂}
+use mathlib.Core.Bool.{Bool, cond}
 use mathlib.Core.List.{List, [], _∷_, _++_, map}
 use lib.Dec.{eqb}
 use lib.ListN.{length, getD, set, length-append}
 use lib.Seq.{sets}
 use Rattle.statement.specs.Decimal.{decimal}
-use Rattle.statement.specs.NewickText.{Shape, thoseFrom, homed, children, unbracketed, led, bracketed, leafText, childText, items, vertexBy, vertexText}
+use Rattle.statement.specs.NewickText.{Shape, homed, led, bracketed, leafText, childText, items, vertexText}
 use Rattle.newick_list.proofs.Vertex.{vertex-is}
 use Rattle.newick_vertex.specs.Arrays.{having, shapeIn, Lone, Next, leadAt}
 use Rattle.newick_vertex.proofs.Bare.{having-all}

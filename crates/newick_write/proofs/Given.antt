@@ -1,10 +1,10 @@
 -- The writer's arrays hold the tree of the list, and its text is short. Assumes nothing.
-use Prim.Native.Nat.{ℕ, zero, suc, _+_, _^_, _≤_, _<_}
+use Prim.Native.Nat.{ℕ, _+_, _^_, _≤_, _<_}
 use native.Mathlib.Omega.{arith}
 use native.Mathlib.Decide.{ℕ-discrete}
-use mathlib.Core.Path.{_≡_, refl, sym, _∙_, ap, ap₂, subst}
+use mathlib.Core.Path.{_≡_, refl, sym, _∙_, ap, subst}
 use mathlib.Core.List.{List, [], _∷_, _++_, append-nil}
-use lib.ListN.{length, getD, set, drop, length-append, drop-of-length-le, length-map}
+use lib.ListN.{length, getD, set, length-append, drop-of-length-le, length-map}
 use lib.Seq.{sets, sets-eq, getD-set-same, getD-set-other}
 use Rattle.statement.specs.declared.Splits.{Splits}
 use Rattle.statement.specs.Matrix.{weightLimit}

@@ -1,14 +1,11 @@
 -- The two ways out of the call for the length alone. Assumes nothing.
-use Prim.Native.Nat.{ℕ, _≤_}
-use mathlib.Core.Path.{_≡_, refl, sym, _∙_, ap}
+use Prim.Native.Nat.{ℕ}
+use mathlib.Core.Path.{_≡_, refl}
 use mathlib.Core.Logic.{_≢_}
-use mathlib.Core.Bool.{Bool, true, false, cond, not, _&&_, _||_}
-use mathlib.Core.List.{List, [], _∷_}
+use mathlib.Core.Bool.{Bool, true, false, cond, _&&_, _||_}
 use lib.Dec.{ltb, eqb}
 use native.Mathlib.Omega.{arith}
 use Rattle.statement.specs.declared.Splits.{Splits}
-use Rattle.statement.specs.declared.Outcome.{Outcome}
-use Rattle.statement.specs.declared.Outcome.the-variants.{Done, Refused}
 use Rattle.statement.specs.Lowest.{lowestFrom}
 use Rattle.statement.specs.Matrix.{weightLimit}
 use Rattle.statement.specs.Rows.{rowsOf, wellFormed}

@@ -9,6 +9,7 @@ pub mod Bytes
 pub mod Decimal
 pub mod Grammar
 pub mod Sentence
+pub mod Moves
 pub mod NewickText
 pub mod Refusals
 pub mod Record

@@ -1,9 +1,9 @@
 use Prim.Native.Nat.{ℕ, suc, _+_, _-_, _*_, _≤_, _<_}
 use borrow.Author.Needs.{needs}
-use mathlib.Core.Path.{_≡_, refl, sym, ap, _∙_}
+use mathlib.Core.Path.{_≡_, refl, ap, _∙_}
 use native.Mathlib.Omega.{arith}
 use lib.ListN.{length, drop, getD}
-use Rattle.newick_text.specs.Automaton.{taxon, weight, want, over, close as shut, next, run, ran, placeOf}
+use Rattle.newick_text.specs.Automaton.{taxon, weight, want, over, close as shut, run, ran, placeOf}
 use Rattle.newick_text.proofs.Laws.{goes, fails, ran-bad, ran-past, place-past, want-first, want-full, want-deeper, suc-pred, colon-over, colon-close, sep-close, sep-comma, sep-none, inside′}
 use borrow.Fn.Kinds.{In}
 use borrow.Fn.PlainCycle.{Measures, is, falls, and}

@@ -1,9 +1,9 @@
 use borrow.Author.Needs.{needs}
-use mathlib.Core.Path.{_≡_, refl, sym, ap, _∙_}
-use Prim.Native.Nat.{ℕ, suc, _+_, _≤_, _<_}
+use mathlib.Core.Path.{_≡_, _∙_}
+use Prim.Native.Nat.{_≤_, _<_}
 use native.Mathlib.Omega.{arith}
-use lib.ListN.{length, drop, getD}
-use Rattle.newick_text.specs.Automaton.{start, taxon, want, close as shut, run, placeOf}
+use lib.ListN.{length, drop}
+use Rattle.newick_text.specs.Automaton.{start, close as shut, run, placeOf}
 use Rattle.newick_text.proofs.Laws.{goes, fails, ends, ran-past, ran-whole, place-past, start-open, start-not, stop-end, stop-not, inside′}
 use Rattle.newick_text.proofs.accepts.Statement.{statement}
 use Rattle.newick_text.proofs.accepts.Tie as tie

@@ -1,9 +1,9 @@
 use borrow.Author.Needs.{needs}
-use mathlib.Core.Path.{_≡_, refl, sym, _∙_}
+use mathlib.Core.Path.{_≡_, refl, _∙_}
 use Prim.Native.Nat.{ℕ, _≤_, _<_, _-_}
 use native.Mathlib.Omega.{arith}
-use lib.ListN.{length, drop, getD}
-use Rattle.newick_text.specs.Automaton.{Use, run, some, over, law-move, inside}
+use lib.ListN.{length, drop}
+use Rattle.newick_text.specs.Automaton.{Use, run, some, over, inside}
 use Rattle.newick_text.proofs.Laws.{goes, joins, digit-yes, digit-low, digit-high, some-over, some-some}
 use Rattle.newick_text.proofs.digits.Statement.{statement}
 use Rattle.newick_text.proofs.digits.Tie as tie

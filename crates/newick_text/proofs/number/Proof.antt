@@ -1,9 +1,8 @@
 use borrow.Author.Needs.{needs}
-use mathlib.Core.Path.{_≡_, refl, sym, ap, _∙_}
-use Prim.Native.Nat.{ℕ, _≤_, _<_, _-_}
+use mathlib.Core.Path.{_∙_}
+use Prim.Native.Nat.{_≤_, _<_, _-_}
 use native.Mathlib.Omega.{arith}
-use lib.ListN.{length, drop, getD}
-use Rattle.newick_text.specs.Automaton.{Use, State, run, some, over, inside, next, first, move}
+use lib.ListN.{length}
 use Rattle.newick_text.proofs.Laws.{digit-low, digit-high, num-zero, num-none, num-some, inside′}
 use Rattle.newick_text.proofs.number.Statement.{statement}
 use Rattle.newick_text.proofs.number.Tie as tie

@@ -1,9 +1,9 @@
 use borrow.Author.Needs.{needs}
-use mathlib.Core.Path.{_≡_, refl, sym, ap, _∙_}
+use mathlib.Core.Path.{_≡_, refl, _∙_}
 use Prim.Native.Nat.{ℕ, _≤_, _<_, _-_}
 use native.Mathlib.Omega.{arith}
-use lib.ListN.{length, drop, getD}
-use Rattle.newick_text.specs.Automaton.{weight, want, next, placeOf}
+use lib.ListN.{length}
+use Rattle.newick_text.specs.Automaton.{weight, want, placeOf}
 use Rattle.newick_text.proofs.Laws.{goes, fails, ran-bad, ran-past, place-past, colon-yes, colon-no, inside′}
 use Rattle.newick_text.proofs.tail.Statement.{statement}
 use Rattle.newick_text.proofs.tail.Tie as tie

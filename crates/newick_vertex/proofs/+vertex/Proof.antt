@@ -1,19 +1,19 @@
 -- `newick_vertex::vertex` meets its contract: its number falls from call to call. Assumes nothing.
 use Prim.Native.Nat.{ℕ, _+_, _-_, _≤_, _<_}
 use native.Mathlib.Omega.{arith}
-use mathlib.Core.Path.{_≡_, refl, sym, _∙_, ap}
-use mathlib.Core.List.{List, [], _∷_, _++_, map}
+use mathlib.Core.Path.{_≡_, sym, _∙_, ap}
+use mathlib.Core.List.{List, _∷_, map}
 use lib.Dec.{eqb}
 use lib.ListN.{length, getD, length-append}
-use lib.Seq.{sets, length-sets}
+use lib.Seq.{sets}
 use borrow.Author.Needs.{needs}
 use Rattle.statement.specs.Decimal.{decimal}
 use Rattle.statement.specs.NewickText.{led, childText, vertexText}
 use Rattle.newick_list.proofs.Those.{those-end}
-use Rattle.newick_vertex.specs.Arrays.{having, shapeIn}
+use Rattle.newick_vertex.specs.Arrays.{shapeIn}
 use Rattle.newick_vertex.proofs.Bare.{here-some}
 use Rattle.newick_vertex.proofs.Stores.{Left, left-same, left-length, left-all, left-room, left-turn, left-none, item-stored}
-use Rattle.newick_vertex.proofs.Whole.{own, kids, bare-text, bracket-text, own-length, rest-room, closed}
+use Rattle.newick_vertex.proofs.Whole.{kids, bare-text, bracket-text, own-length, rest-room, closed}
 use borrow.Fn.Kinds.{In}
 use borrow.Fn.PlainCycle.{Measures, is, falls, and}
 use Rattle.newick_vertex.proofs.vertex.Reads as vertex

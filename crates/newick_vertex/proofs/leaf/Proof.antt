@@ -1,8 +1,7 @@
 -- `newick_vertex::leaf` meets its contract. Assumes nothing.
-use Prim.Native.Nat.{ℕ, _+_}
 use native.Mathlib.Omega.{arith}
-use mathlib.Core.List.{List, [], _∷_, _++_}
-use lib.ListN.{length, length-append}
+use mathlib.Core.List.{_∷_}
+use lib.ListN.{length-append}
 use borrow.Author.Needs.{needs}
 use Rattle.statement.specs.Decimal.{decimal}
 use Rattle.newick_vertex.proofs.Stores.{item-stored}

@@ -1,13 +1,13 @@
 -- `newick_vertex::next_with` meets its contract: no place passed holds the number. Assumes nothing.
-use Prim.Native.Nat.{ℕ, _-_, _≤_, _<_}
+use Prim.Native.Nat.{_-_, _≤_}
 use native.Mathlib.Omega.{arith}
-use mathlib.Core.Path.{_≡_, refl, sym, _∙_, ap}
+use mathlib.Core.Path.{_≡_, refl, _∙_}
 use lib.Dec.{eqb}
 use lib.ListN.{getD}
 use borrow.Author.Needs.{needs}
 use borrow.Author.Tests.{ne-eqb}
 use Rattle.newick_list.proofs.Those.{those-skip}
-use Rattle.newick_vertex.specs.Arrays.{having, Next}
+use Rattle.newick_vertex.specs.Arrays.{having}
 use Rattle.newick_vertex.proofs.next_with.Statement.{statement}
 use Rattle.newick_vertex.proofs.next_with.Tie as tie
 

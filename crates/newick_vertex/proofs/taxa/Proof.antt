@@ -1,15 +1,14 @@
 -- `newick_vertex::taxa` meets its contract. Assumes nothing.
-use Prim.Native.Nat.{ℕ, _+_, _-_, _≤_, _<_}
+use Prim.Native.Nat.{_+_, _-_, _≤_, _<_}
 use native.Mathlib.Omega.{arith}
-use mathlib.Core.Path.{_≡_, refl, sym, _∙_, ap}
-use mathlib.Core.List.{List, [], _∷_, _++_, map}
+use mathlib.Core.Path.{_≡_, ap}
+use mathlib.Core.List.{map}
 use lib.Dec.{eqb}
-use lib.ListN.{length, getD}
-use lib.Seq.{sets, length-sets}
+use lib.ListN.{getD}
 use borrow.Author.Needs.{needs}
 use Rattle.statement.specs.NewickText.{led, leafText}
 use Rattle.newick_list.proofs.Those.{those-end}
-use Rattle.newick_vertex.specs.Arrays.{having, Next}
+use Rattle.newick_vertex.specs.Arrays.{having}
 use Rattle.newick_vertex.proofs.Bare.{here-some}
 use Rattle.newick_vertex.proofs.Stores.{Left, left-all, left-same, left-length, left-room, left-turn, left-none}
 use Rattle.newick_vertex.proofs.taxa.Statement.{statement}

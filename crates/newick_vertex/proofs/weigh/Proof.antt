@@ -1,5 +1,4 @@
 -- `newick_vertex::weigh` meets its contract. Assumes nothing.
-use Prim.Native.Nat.{ℕ, _+_}
 use native.Mathlib.Omega.{arith}
 use borrow.Author.Needs.{needs}
 use Rattle.statement.specs.Decimal.{decimal}

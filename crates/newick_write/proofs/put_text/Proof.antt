@@ -1,5 +1,4 @@
 -- `newick_write::put_text` meets its contract: the arrays hold the tree. Assumes nothing.
-use Prim.Native.Nat.{_+_, _≤_}
 use native.Mathlib.Omega.{arith}
 use mathlib.Core.Path.{_≡_}
 use lib.ListN.{length}
