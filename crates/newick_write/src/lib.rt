@@ -10,8 +10,9 @@ ghost use Rattle.statement.specs.Rows.{Row, rowsOf, WellFormed};
 ghost use Rattle.statement.specs.Matrix.{weightLimit};
 ghost use Rattle.statement.specs.Tree.{linkOf, homeOf};
 ghost use Rattle.tree_write.specs.Vertices.{ClustersOf};
+ghost use Rattle.newick_write.specs.Linked.{Linked};
 ghost use Rattle.statement.specs.NewickText.{newickOf, newickLength};
-ghost use Rattle.statement.specs.Calls.{writeNewick, newickWritten, newickMeasured};
+ghost use Rattle.statement.specs.Calls.{measureNewick, newickMeasured, writeNewick, newickWritten};
 
 // The links of m rows.
 fn links_of(n: usize, clusters: &[u64; 125], m: usize) -> [usize; 125]
@@ -41,37 +42,56 @@ fn homes_of(n: usize, clusters: &[u64; 125], m: usize) -> [usize; 64]
     homes
 }
 
-// The text of a well-formed list, as far as there is room for it, and its length.
-fn put_text(n: usize, s: Splits, out: &mut [u8]) -> usize
+// The links and the homes of a well-formed list.
+struct Arrays {
+    links: [usize; 125],
+    homes: [usize; 64],
+}
+
+fn arrays_of(n: usize, s: Splits) -> Arrays
     requires { ⌜ (n ≤ 64) × WellFormed weightLimit n s × (s .taxa ≡ n) ⌝ }
+    ensures { λ r. ⌜ Linked n s (r .links) (r .homes) ⌝ }
+{
+    let clusters = s.clusters;
+    let links = links_of(n, &clusters, s.rows);
+    let homes = homes_of(n, &clusters, s.rows);
+    Arrays { links, homes }
+}
+
+// The text of a well-formed list, from its links and homes, as far as there is room for it, and its length.
+fn put_text(n: usize, s: Splits, links: &[usize; 125], homes: &[usize; 64], out: &mut [u8]) -> usize
+    requires { ⌜ (n ≤ 64) × WellFormed weightLimit n s × (s .taxa ≡ n) × Linked n s (now links) (now homes) ⌝ }
     ensures { λ r. ⌜ (now (out .exit) ≡ sets (now (out .entry)) 0 (newickOf n (rowsOf s))) × (r ≡ newickLength n (rowsOf s)) ⌝ }
 {
     let m = s.rows;
-    let clusters = s.clusters;
     let weights = s.weights;
-    let links = links_of(n, &clusters, m);
-    let homes = homes_of(n, &clusters, m);
-    let p = newick_vertex::vertex(n, m, &links, &homes, &weights, m, out, 0);
+    let p = newick_vertex::vertex(n, m, links, homes, &weights, m, out, 0);
     newick_digits::put(out, p, 59)
 }
 
 // Its length: nothing has room in one byte but the first.
-fn text_length(n: usize, s: Splits) -> usize
-    requires { ⌜ (n ≤ 64) × WellFormed weightLimit n s × (s .taxa ≡ n) ⌝ }
+fn text_length(n: usize, s: Splits, links: &[usize; 125], homes: &[usize; 64]) -> usize
+    requires { ⌜ (n ≤ 64) × WellFormed weightLimit n s × (s .taxa ≡ n) × Linked n s (now links) (now homes) ⌝ }
     ensures { λ r. ⌜ r ≡ newickLength n (rowsOf s) ⌝ }
 {
     let mut first = [0u8; 1];
-    put_text(n, s, &mut first)
+    put_text(n, s, links, homes, &mut first)
 }
 
-// The length of the text of a list with k = n; 0, which no text has, where n or the list is refused.
-pub fn newick_length(n: usize, s: Splits) -> usize
-    ensures { λ r. ⌜ r ≡ newickMeasured n s 0 ⌝ }
+// The length of the text of a list with k = n: 1, 8, or the lent number set.
+pub fn newick_length(n: usize, s: Splits, length: &mut usize) -> Outcome
+    ensures { λ r. ⌜ r ≡ measureNewick n s ⌝ }
+    ensures { λ _. ⌜ now (length .exit) ≡ newickMeasured n s (now (length .entry)) ⌝ }
 {
-    if splits_list::whole_refusal(n, s) != 0 {
-        return 0;
+    let refusal = splits_list::whole_refusal(n, s);
+    if refusal != 0 {
+        return Outcome::Refused(refusal, 0);
     }
-    text_length(n, s)
+    let arrays = arrays_of(n, s);
+    let links = arrays.links;
+    let homes = arrays.homes;
+    *length = text_length(n, s, &links, &homes);
+    Outcome::Done
 }
 
 // The text of a list with k = n: 1, 8, 7, or the slice filled.
@@ -83,9 +103,12 @@ pub fn write_newick(n: usize, s: Splits, out: &mut [u8]) -> Outcome
     if refusal != 0 {
         return Outcome::Refused(refusal, 0);
     }
-    if out.len() != text_length(n, s) {
+    let arrays = arrays_of(n, s);
+    let links = arrays.links;
+    let homes = arrays.homes;
+    if out.len() != text_length(n, s, &links, &homes) {
         return Outcome::Refused(7, 0);
     }
-    put_text(n, s, out);
+    put_text(n, s, &links, &homes, out);
     Outcome::Done
 }

@@ -35,17 +35,21 @@ list c =
     let ok = taken (a .n) (a .s) (none c) in
     (ok .few, taken-list (a .n) (a .s) hc hw ok, ok .whole)
 
+arrays-of-requires : tie.Need-arrays-of-requires
+arrays-of-requires c κs = list c
+
 text-length-requires : tie.Need-text-length-requires
-text-length-requires c κs = list c
+text-length-requires c κs = let (few, well, whole) = list (c .before .before .before .before .before) in (few, well, whole, c .before .before .before .before .arrays-of .ensures)
 
 returns-2 : tie.Need-returns-2
 unfolding writeNewick newickWritten
 returns-2 c =
-    let a = c .before .before .before .before .before .args in
-    size-off (a .n) (a .s) (a .out .now) _ _ (none (c .before .before)) (λ e. c .if2 .taken (e ∙ sym (c .before .text-length .ensures)))
+    let a = c .before .before .before .before .before .before .before .before .before .before .args in
+    size-off (a .n) (a .s) (a .out .now) _ _ (none (c .before .before .before .before .before .before .before)) (λ e. c .if2 .taken (e ∙ sym (c .before .text-length .ensures)))
 
 put-text-requires : tie.Need-put-text-requires
-put-text-requires c κs = list (c .before .before .before)
+put-text-requires c κs =
+    let (few, well, whole) = list (c .before .before .before .before .before .before .before .before .before .before) in (few, well, whole, c .before .before .before .before .before .before .before .before .before .arrays-of .ensures)
 
 same-length : tie.Need-same-length
 same-length c = search needs
@@ -54,10 +58,10 @@ returns-3 : tie.Need-returns-3
 unfolding writeNewick newickWritten
 returns-3 c =
     let call = c .before .before .put-text in
-    let two = c .before .before .before .before in
-    let a = two .before .before .before .before .before .args in
+    let two = c .before .before .before .before .before .before in
+    let a = two .before .before .before .before .before .before .before .before .before .before .args in
     let size : length (a .out .now) ≡ length (newickOf (a .n) (rowsOf (a .s))) = two .if2 .left ∙ two .before .text-length .ensures in
-    accepted (a .n) (a .s) (a .out .now) _ _ (none (two .before .before)) size (call .last .1 .1 .0)
+    accepted (a .n) (a .s) (a .out .now) _ _ (none (two .before .before .before .before .before .before .before)) size (call .last .1 .1 .1 .1 .0)
     (call .ensures .0 ∙ sets-whole (newickOf (a .n) (rowsOf (a .s))) (a .out .now) size)
 
 pub write-newick-spec : {M : Type 1} → statement M
@@ -66,6 +70,7 @@ write-newick-spec =
     (tie.spec
     whole-refusal-requires
     returns
+    arrays-of-requires
     text-length-requires
     returns-2
     put-text-requires
