@@ -36,7 +36,7 @@ size_t make_record(size_t most_taxa, uint8_t *record);
 size_t damage_record(uint8_t *record, size_t length);
 
 /* A tree to write Newick texts of: it has no root, and any vertex may be taken for it. */
-#define LONG_NUMBER (UINT64_MAX - 1) /* a length that is written as any number of 7 to 66 digits, above all limits */
+#define LONG_NUMBER (UINT64_MAX - 1) /* a length that is written as some number of 8 to 67 digits, above all limits */
 typedef struct free_edge {
     size_t one, other;
     uint64_t length;

@@ -94,7 +94,7 @@ static void put_number(uint64_t number)
         return;
     }
     *out++ = (uint8_t)('1' + below(9));
-    for (size_t digits = 6 + below(60); digits > 0; digits--)
+    for (size_t digits = 7 + below(60); digits > 0; digits--)
         *out++ = (uint8_t)('0' + below(10));
 }
 
