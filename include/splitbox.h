@@ -128,9 +128,9 @@ uint64_t splitbox_write_newick(size_t n, size_t taxa, size_t rows, const uint64_
                                const uint32_t weights[SPLITBOX_ROWS], uint8_t *out, size_t out_length);
 
 /* A text read, any program's: its children in any order, every one with a weight, no spaces, quotes or names, brackets nested at
- * most SPLITBOX_DEPTH deep; bytes behind the semicolon are not looked at. It is re-rooted at taxon 0's home, and an edge of length
- * 0 is dropped, its ends joined. Writes its list. Two edges that meet at a vertex without taxa, such as a root with two branches,
- * are not added up: 13. Refuses 1 19 20 14 12 13. */
+ * most SPLITBOX_DEPTH deep; bytes behind the semicolon are not looked at. It is re-rooted at taxon 0's home; an edge of length 0 is
+ * dropped, its ends joined. Two edges that meet by themselves at a vertex without taxa, such as a root with two branches, are not
+ * added up: 13. Writes its list. Refuses 1 19 20 14 12 13. */
 uint64_t splitbox_read_newick(size_t n, const uint8_t *text, size_t text_length, size_t *taxa, size_t *rows,
                               uint64_t clusters[SPLITBOX_ROWS], uint32_t weights[SPLITBOX_ROWS]);
 

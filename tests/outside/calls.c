@@ -182,7 +182,8 @@ uint64_t call_write_newick(size_t n, const splitbox_list *list, size_t out_lengt
 
 uint64_t call_read_newick(size_t n, const uint8_t *text, size_t length, splitbox_list *list)
 {
-    begin_case(FUNCTION_read_newick, "n %zu, length %zu, %.*s", n, length, length < 150 ? (int)length : 150, (const char *)text);
+    int shown = (int)(length < 150 ? length : 150);
+    begin_case(FUNCTION_read_newick, "n %zu, length %zu, %.*s", n, length, shown, (const char *)text);
     const uint8_t *bytes = lend("text", 1, length, text);
     lent_list lent = lend_list(NULL);
     uint64_t wanted = reference_read_newick(n, text, length, list);

@@ -254,14 +254,14 @@ static void damage_everywhere(size_t n)
     }
 }
 
-/* Brackets alone and bytes at random. */
+/* Short texts just outside the grammar, brackets nested up to the limit and beyond, and bytes at random. */
 static void odd_texts(void)
 {
-    static const char *const odd[] = {"", ";", "(", "()", "();", "0;", "0:0;", "(0:0)", "(0:0,1:0)", "(0:0,1:0);", "(0:0,1:0):5;", " (0:0,1:0);",
-                                      "(0:0,1:0);x", "(0:0,1:0);;", "('0':0,1:0);", "(a:0,1:0);", "(0:0,1:0.5);", "(0:0[x],1:0);",
-                                      "(0:0, 1:0);", "(0:00,1:0);", "(00:0,1:0);", "(0:0,01:0);", "(0,1);", "(0:,1:0);",
-                                      "((0:0,1:0),2:0);", "((0:0,1:0):,2:0);", "(:0,1:0);", "(0:0,:0);", "(,);", "((),1:0);",
-                                      "(0:-1,1:0);", "(0:1e3,1:0);", "(0:0,1:0)a;", "(0:0,1:0)\n;"};
+    static const char *const odd[] = {
+        "", ";", "(", "()", "();", "0;", "0:0;", "(0:0)", "(0:0,1:0)", "(0:0,1:0);", "(0:0,1:0):5;", " (0:0,1:0);", "(0:0,1:0);x",
+        "(0:0,1:0);;", "('0':0,1:0);", "(a:0,1:0);", "(0:0,1:0.5);", "(0:0[x],1:0);", "(0:0, 1:0);", "(0:00,1:0);", "(00:0,1:0);",
+        "(0:0,01:0);", "(0,1);", "(0:,1:0);", "((0:0,1:0),2:0);", "((0:0,1:0):,2:0);", "(:0,1:0);", "(0:0,:0);", "(,);",
+        "((),1:0);", "(0:-1,1:0);", "(0:1e3,1:0);", "(0:0,1:0)a;", "(0:0,1:0)\n;"};
     splitbox_list list;
     for (size_t i = 0; i < sizeof odd / sizeof *odd; i++)
         for (size_t n = 0; n < 4; n++)
@@ -399,7 +399,8 @@ static void figures_newick(void)
         again = again ? again : given;
         agree(given, same(&list, known));
         written_and_read(n, known);
-        agree(again, reference_write_newick(n, known, text, strlen(again)) == SPLITBOX_DONE && memcmp(text, again, strlen(again)) == 0);
+        reply = reference_write_newick(n, known, text, strlen(again));
+        agree(again, reply == SPLITBOX_DONE && memcmp(text, again, strlen(again)) == 0);
     }
 }
 

@@ -1,5 +1,5 @@
-/* A second implementation of documents 01 and 02, written from its definitions alone, to hold the library against. It is plain rather
- * than fast: every four is looked at one by one, and small answers come from trying all splits there are.
+/* A second implementation of documents 01 and 02, written from their definitions alone, to hold the library against. It is plain
+ * rather than fast: every four is looked at one by one, and small answers come from trying all splits there are.
  *
  * Replies have the library's numbers and places. As with the library, a refusal leaves everything that is lent as it was. */
 #ifndef REFERENCE_H

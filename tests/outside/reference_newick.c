@@ -25,7 +25,7 @@ typedef struct leaf {
     size_t place;
 } leaf;
 
-/* A text, how far it has been read, and its tree: vertex 0 is the outermost bracket, edges and leaves are in the text's order. */
+/* A text, how far it has been read, and its tree: vertex 0 is the outermost bracket, edges and leaves come as in the text. */
 static const uint8_t *text;
 static size_t text_length, at;
 static size_t vertices, edge_count, leaf_count;
