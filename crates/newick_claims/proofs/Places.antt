@@ -33,13 +33,6 @@ pub mem-among : (x : ℕ) (xs : List ℕ) → Mem x xs → among x xs ≡ true
 mem-among x [] m = absurd m
 mem-among x (y ∷ ys) m = ⊎-elim (λ h. or-left (eqb x y) (among x ys) (eq-eqb x y h)) (λ h. or-right (eqb x y) (among x ys) (mem-among x ys h)) m
 
--- two lists that are the same begin alike and go on alike
-heads : {A : Type 0} {x y : A} {xs ys : List A} → x ∷ xs ≡ y ∷ ys → x ≡ y
-heads e = cc
-
-tails : {A : Type 0} {x y : A} {xs ys : List A} → x ∷ xs ≡ y ∷ ys → xs ≡ ys
-tails e = cc
-
 -- in front of a list, where a test is passed
 front-in : (b : Bool) (p place : ℕ) (ps : List ℕ) → Mem p (cond b (place ∷ ps) ps) → ((b ≡ true) × (p ≡ place)) ⊎ Mem p ps
 front-in true p place ps (inl e) = inl (refl, e)
@@ -197,18 +190,6 @@ twin-there n made (e ∷ es) p m =
       why = ⊎-elim (λ k. ⊎-elim (λ q. inr (inl q)) (λ q. inl q) k) (λ k. inr (inr k)) (a .why);
     })
     (front-in (among (splitMade n e) made || among (splitMade n e) (clustersOf n es)) p (e .place) (twins n (splitMade n e ∷ made) es) m)
-
--- of a list with one more in it
-mem-more : (n c : ℕ) (before : List Edge) (e : Edge) (behind : List Edge) → Mem c (clustersOf n (before ++ behind)) → Mem c (clustersOf n (before ++ (e ∷ behind)))
-unfolding clustersOf
-mem-more n c [] e behind m = inr m
-mem-more n c (x ∷ xs) e behind (inl h) = inl h
-mem-more n c (x ∷ xs) e behind (inr m) = inr (mem-more n c xs e behind m)
-
-mem-own : (n : ℕ) (before : List Edge) (e : Edge) (behind : List Edge) → Mem (splitMade n e) (clustersOf n (before ++ (e ∷ behind)))
-unfolding clustersOf
-mem-own n [] e behind = inl refl
-mem-own n (x ∷ xs) e behind = inr (mem-own n xs e behind)
 
 twin-back : (n : ℕ) (made : List ℕ) (before : List Edge) (e : Edge) (behind : List Edge) (p : ℕ) → e .place ≡ p
     → Mem (splitMade n e) made ⊎ Mem (splitMade n e) (clustersOf n (before ++ behind)) → Mem p (twins n made (before ++ (e ∷ behind)))

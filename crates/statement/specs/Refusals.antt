@@ -157,27 +157,40 @@ badAt number bad places = record { number = number; places = places; bad = λ i.
 abbrev pub grammarOff : ℕ → Check
 grammarOff k = badAt 19 (k ∷ []) (suc k)
 
--- 20: a taxon repeated or not below n, at the first such, ..
+-- 20: a taxon repeated or not below n, at the first such, else one missing, at the semicolon. The leaves that are so, where these taxa came before
 unfoldable pub strays : ℕ → List ℕ → List Leaf → List ℕ
 strays n before [] = []
 strays n before (l ∷ ls) =
     cond (not (ltb (l .taxon) n) || among (l .taxon) before) (l .place ∷ strays n (l .taxon ∷ before) ls) (strays n (l .taxon ∷ before) ls)
 
--- .. else one missing, at the semicolon
 unfoldable pub missing : ℕ → Children → List ℕ
 missing n f = cond (somewhere (λ x. not (among x (taxaOf f))) n) (semicolonAt f ∷ []) []
 
--- 14, 12: the weights' places of the edges that pass a test
+abbrev pub taxonOff : ℕ → Children → Check
+taxonOff n f = badAt 20 (strays n [] (leavesOf f) ++ missing n f) (suc (semicolonAt f))
+
+-- 14, 12, 13 of the edges that are kept, each at the first byte of the earliest such edge's weight. The places of those that pass a test
 unfoldable pub placesOf : (Edge → Bool) → List Edge → List ℕ
 placesOf test [] = []
 placesOf test (e ∷ es) = cond (test e) (e .place ∷ placesOf test es) (placesOf test es)
 
--- 13: and of those whose split another edge makes too, before it or after it
+-- 14: weight above 2,000,000
+abbrev pub heavyOff : Children → Check
+heavyOff f = badAt 14 (placesOf (λ e. ltb weightLimit (e .weight)) (edgesOf f)) (suc (semicolonAt f))
+
+-- 12: no taxon beyond the edge
+abbrev pub bareOff : ℕ → Children → Check
+bareOff n f = badAt 12 (placesOf (λ e. eqb (splitMade n e) 0) (edgesOf f)) (suc (semicolonAt f))
+
+-- 13: another edge makes the same split, before it or after it
 unfoldable pub twins : ℕ → List ℕ → List Edge → List ℕ
 twins n before [] = []
 twins n before (e ∷ es) =
     cond (among (splitMade n e) before || among (splitMade n e) (clustersOf n es)) (e .place ∷ twins n (splitMade n e ∷ before) es)
     (twins n (splitMade n e ∷ before) es)
+
+abbrev pub splitOff : ℕ → Children → Check
+splitOff n f = badAt 13 (twins n [] (edgesOf f)) (suc (semicolonAt f))
 
 -- THE ORDERS
 
@@ -203,14 +216,9 @@ treeChecks n body = taxaOff n ∷ lengthOff (treeFits n (length body)) ∷ verte
 abbrev pub outputChecks : ℕ → Splits → ℕ → ℕ → List Check
 outputChecks n s len wanted = taxaOff n ∷ wholeListOff n s ∷ outputOff len wanted ∷ []
 
--- a text: 19; or, of a sentence, 20, then 14, 12, 13 of the edges that are kept, each at the first byte of the earliest such edge's weight
+-- a text: 19; or, of a sentence, 20, then 14, 12, 13
 abbrev pub sentenceChecks : ℕ → Children → List Check
-sentenceChecks n f =
-    badAt 20 (strays n [] (leavesOf f) ++ missing n f) (suc (semicolonAt f))
-    ∷ badAt 14 (placesOf (λ e. ltb weightLimit (e .weight)) (edgesOf f)) (suc (semicolonAt f))
-    ∷ badAt 12 (placesOf (λ e. eqb (splitMade n e) 0) (edgesOf f)) (suc (semicolonAt f))
-    ∷ badAt 13 (twins n [] (edgesOf f)) (suc (semicolonAt f))
-    ∷ []
+sentenceChecks n f = taxonOff n f ∷ heavyOff f ∷ bareOff n f ∷ splitOff n f ∷ []
 
 abbrev pub textChecks : ℕ → Parsed → List Check
 textChecks n (outside k) = grammarOff k ∷ []
