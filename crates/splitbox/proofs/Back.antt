@@ -3,7 +3,6 @@ use Prim.Native.Nat.{ℕ}
 use native.Mathlib.Omega.{arith}
 use mathlib.Core.Path.{_≡_, refl, sym, _∙_, ap, subst}
 use mathlib.Core.Bool.{true, false}
-use mathlib.Core.List.{List}
 use Rattle.statement.specs.declared.Splits.{Splits}
 use Rattle.statement.specs.declared.Growth.{Growth}
 use Rattle.statement.specs.declared.Reading.{Reading}
@@ -34,7 +33,7 @@ module _ (g : Growth) (r : ℕ) (says : r ≡ replyOf (g .outcome)) (s₀ : Spli
 pub read-back : (q p : Reading) → q ≡ p → (r : ℕ) (s₀ s : Splits) (t₀ t : ℕ) → HandedBack (record { outcome = q .outcome; list = q .list; trials = 0 }) r s₀ s t₀ t → ReadBack p r s₀ s
 read-back q p e r s₀ s t₀ t h = subst (λ (x : Reading). ReadBack x r s₀ s) e (h .0, h .1)
 
--- a call on a list and a lent slice, by the list that was given
-pub out-back : (says : Splits → Outcome) (holds : Splits → List ℕ) (s t : Splits) → s ≡ t → (o : Outcome) (r : ℕ) (w : List ℕ)
+-- a call on a list and a lent slice or number, by the list that was given
+pub out-back : {A : Type 0} (says : Splits → Outcome) (holds : Splits → A) (s t : Splits) → s ≡ t → (o : Outcome) (r : ℕ) (w : A)
     → r ≡ replyOf o → o ≡ says s → w ≡ holds s → (r ≡ replyOf (says t)) × (w ≡ holds t)
 out-back says holds s t same o r w e f g = (e ∙ ap (λ (u : Outcome). replyOf u) (f ∙ ap says same), g ∙ ap holds same)

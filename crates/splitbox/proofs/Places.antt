@@ -14,11 +14,13 @@ use Rattle.statement.specs.declared.Outcome.{Outcome}
 use Rattle.statement.specs.declared.Outcome.the-variants.{Done, Short, Refused}
 use Rattle.statement.specs.Matrix.{weightLimit}
 use Rattle.statement.specs.Table.{choose, tableWeight}
+use Rattle.statement.specs.Rows.{rowsOf}
 use Rattle.statement.specs.Tree.{root}
+use Rattle.statement.specs.NewickText.{newickLength}
 use Rattle.statement.specs.Bytes.{treeIn, fromBytes, treeLength}
-use Rattle.statement.specs.Refusals.{Check, outcomeOf, Passed, Given, lengthOff, outputOff, kindOff, byteOff, treeFits, listOff, matrixChecks, tableChecks, treeChecks, outputChecks, entryChecks, vertexChecks}
+use Rattle.statement.specs.Refusals.{Check, outcomeOf, Passed, Given, lengthOff, outputOff, kindOff, byteOff, treeFits, listOff, matrixChecks, tableChecks, treeChecks, outputChecks, listChecks, entryChecks, vertexChecks}
 use Rattle.statement.specs.Record.{Kind, kinds, isKind, fitsKind, bodyChecks, matrixKind, tableKind, recordLength, kindIn, taxaIn, recordChecks, takenChecks, bodyIn, writingChecks}
-use Rattle.statement.specs.Calls.{unlessRefused, refusedRun, runMatrix, runTable, growMatrix, growTable, readTree, writeTree, sumPaths, findRecord, writeRecord, runRecord}
+use Rattle.statement.specs.Calls.{unlessRefused, refusedRun, runMatrix, runTable, growMatrix, growTable, readTree, writeTree, measureNewick, writeNewick, sumPaths, findRecord, writeRecord, runRecord}
 use Rattle.statement.proofs.Tests.{both-is, less-is, not-is}
 use Rattle.statement.proofs.Accepted.{taxa-passed, length-passed}
 use Rattle.statement.proofs.Refused.{refused-exactly}
@@ -26,6 +28,7 @@ use Rattle.record_write.proofs.RoundTrip.{tree-short, table-short, body-short}
 use Rattle.splitbox.specs.Face.{Shares}
 use Rattle.claims.specs.Demands.{ExactlyWhen}
 use Rattle.claims.proofs.Demand1.{run-matrix, run-table, grow-matrix, grow-table, read-tree, write-tree, sum-paths, find-record, write-record}
+use Rattle.newick_claims.proofs.Replies.{newick-length, write-newick}
 
 -- a line with a small number that looks at few places, given that those before it are passed
 abbrev Line : Check → Type 0
@@ -149,6 +152,13 @@ reading-fits n body = shares-by _ (treeChecks n body) (read-tree n body .0) (few
 
 pub tree-fits : (n : ℕ) (s : Splits) (out : List ℕ) → Shares (writeTree n s out)
 tree-fits n s out = shares-by _ (outputChecks n s (length out) (treeLength n (s .rows))) (write-tree n s out .0) (few-output n s (length out) (treeLength n (s .rows)))
+
+pub newick-length-fits : (n : ℕ) (s : Splits) → Shares (measureNewick n s)
+newick-length-fits n s = shares-by _ (listChecks n s) (newick-length n s) (line refl (omega arith), (λ p. (line refl (omega arith), (λ q. tt))))
+
+pub newick-fits : (n : ℕ) (s : Splits) (out : List ℕ) → Shares (writeNewick n s out)
+newick-fits n s out =
+    shares-by _ (outputChecks n s (length out) (newickLength n (rowsOf s))) (write-newick n s out .0) (few-output n s (length out) (newickLength n (rowsOf s)))
 
 pub paths-fit : (n : ℕ) (s : Splits) (out : List ℕ) → Shares (sumPaths n s out)
 paths-fit n s out = shares-by _ (outputChecks n s (length out) (n * n)) (sum-paths n s out .0) (few-output n s (length out) (n * n))

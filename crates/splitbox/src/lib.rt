@@ -11,7 +11,7 @@ ghost use mathlib.Core.List.{[]};
 ghost use Rattle.statement.specs.Rows.{listIn, listOf};
 ghost use Rattle.statement.specs.Refusals.{outcomeOf};
 ghost use Rattle.statement.specs.Record.{takenChecks};
-ghost use Rattle.statement.specs.Calls.{unlessRefused, runMatrix, runTable, growMatrix, growTable, writeTree, treeWritten, readTree, sumPaths, pathsWritten, findRecord, writeRecord, recordWritten, stepAt, runRecord};
+ghost use Rattle.statement.specs.Calls.{unlessRefused, runMatrix, runTable, growMatrix, growTable, writeTree, treeWritten, readTree, measureNewick, newickMeasured, writeNewick, newickWritten, sumPaths, pathsWritten, findRecord, writeRecord, recordWritten, stepAt, runRecord};
 ghost use Rattle.record_find.specs.Taken.{kindsTaken};
 ghost use Rattle.record_find.specs.Stretch.{bodyStart, bodyLength};
 ghost use Rattle.splitbox.specs.Face.{replyOf, Shares, HandedBack, GrownBack, ReadBack, Walked};
@@ -282,6 +282,40 @@ pub extern "C" fn splitbox_read_tree(
     };
     let mut unused: u64 = 0;
     hand_back(g, taxa, rows, clusters, weights, &mut unused)
+}
+
+// The length of the Newick text of a list with k = n.
+#[no_mangle]
+pub extern "C" fn splitbox_newick_length(
+    n: usize,
+    taxa: usize,
+    rows: usize,
+    clusters: &[u64; 125],
+    weights: &[u32; 125],
+    length: &mut usize,
+) -> u64
+    ensures { λ r. ⌜ r ≡ replyOf (measureNewick n (listIn taxa rows (now (clusters .entry)) (now (weights .entry)))) ⌝ }
+    ensures { λ _. ⌜ now (length .exit) ≡ newickMeasured n (listIn taxa rows (now (clusters .entry)) (now (weights .entry))) (now (length .entry)) ⌝ }
+{
+    let s = given(taxa, rows, clusters, weights);
+    reply(newick_write::newick_length(n, s, length))
+}
+
+// Its Newick text, into a lent slice.
+#[no_mangle]
+pub extern "C" fn splitbox_write_newick(
+    n: usize,
+    taxa: usize,
+    rows: usize,
+    clusters: &[u64; 125],
+    weights: &[u32; 125],
+    out: &mut [u8],
+) -> u64
+    ensures { λ r. ⌜ r ≡ replyOf (writeNewick n (listIn taxa rows (now (clusters .entry)) (now (weights .entry))) (now (out .entry))) ⌝ }
+    ensures { λ _. ⌜ now (out .exit) ≡ newickWritten n (listIn taxa rows (now (clusters .entry)) (now (weights .entry))) (now (out .entry)) ⌝ }
+{
+    let s = given(taxa, rows, clusters, weights);
+    reply(newick_write::write_newick(n, s, out))
 }
 
 // Path sums of a list with k = n, into a lent slice of n by n.
