@@ -20,7 +20,7 @@ use Rattle.statement.proofs.Groups.{group-bit}
 use Rattle.statement.proofs.Listed.{asc-mem}
 use Rattle.statement.proofs.Refused.{passed-done}
 use Rattle.splits_list.proofs.Whole.{taken-rows, done-taken, done-filled}
-use Rattle.tree_read.proofs.Sorting.{Held, held-mem, sort-held}
+use Rattle.row_sort.proofs.Sorting.{Held, held-mem, sort-held}
 use Rattle.statement.specs.Sentence.{Children, Edge, among, edgesAt, splitMade, keptEdges, sentence, clustersOf, semicolonAt, rowOf}
 use Rattle.newick_meaning.specs.Parse.{readNewick}
 use Rattle.statement.specs.NewickText.{newickOf, newickLength}

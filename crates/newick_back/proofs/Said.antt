@@ -12,7 +12,7 @@ use borrow.Author.Tests.{eq-eqb, ne-eqb, lt-ltb, le-ltb}
 use Rattle.statement.specs.Cluster.{groupOf}
 use Rattle.statement.specs.Rows.{Row, row, clusters, Ascending}
 use Rattle.statement.proofs.Lowest.{none-at}
-use Rattle.tree_read.proofs.Sorting.{Held}
+use Rattle.row_sort.proofs.Sorting.{Held}
 use Rattle.statement.specs.Sentence.{Children, leaf, group, leafThen, groupThen, value, Leaf, Edge, among, taxaOf, leavesAt, edgesAt, splitMade, keptEdges, clustersOf}
 use Rattle.statement.specs.Refusals.{placesOf, strays, twins, missing}
 use Rattle.newick_list.proofs.Sums.{total, total-append}

@@ -11,7 +11,7 @@ use borrow.Author.Tests.{eq-eqb, ne-eqb, leb-true, leb-false}
 use Rattle.statement.specs.Rows.{Row, row, clusters, Ascending}
 use Rattle.statement.specs.Tree.{insertRow, sortRows}
 use Rattle.statement.proofs.Listed.{asc-mem}
-use Rattle.tree_read.proofs.Sorting.{Held, held-mem}
+use Rattle.row_sort.proofs.Sorting.{Held, held-mem}
 
 -- what a function gives on rows, added up
 unfoldable pub rowTotal : (Row → ℕ) → List Row → ℕ
