@@ -54,6 +54,10 @@ pub record Twin (n : ℕ) (edges : List Edge) (place : ℕ) : Type 0 where
   pub there : edge .place ≡ place
   pub why : Mem (splitMade n edge) (clustersOf n (stands .before ++ stands .behind))
 
+-- a taxon is on the other side of an edge from taxon 0: one of the two is below it and the other is not
+abbrev pub OtherSide : List ℕ → ℕ → Type 0
+OtherSide below i = (Mem i below × (Mem 0 below → ⊥)) ⊎ ((Mem i below → ⊥) × Mem 0 below)
+
 -- THE LIST OF AN ACCEPTED TEXT: well-formed with k = n, and its rows are exactly the splits of the edges above 0, with their weights
 pub record NewickRead (n : ℕ) (f : Children) (list : Splits) : Type 0 where
   pub taxa : list .taxa ≡ n

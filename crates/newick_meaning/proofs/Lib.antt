@@ -3,3 +3,4 @@ pub mod Sizes
 pub mod Parses
 pub mod Unique
 pub mod Figures
+pub mod Rest
