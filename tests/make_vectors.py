@@ -1,7 +1,7 @@
 #!/usr/bin/env python3
 """Writes crates/vectors/data and crates/vectors/stdout: records, sound and damaged, and what documents 01 and 02 say of each; files of records, walked
-(w); typed numbers (t); and records in plain words (s). Then crates/newick_figures/data/texts and its stdout: Newick texts, a line each, and what is read
-from them.
+(w); typed numbers (t); records in plain words (s); Newick texts to records (n), and records to Newick texts (o). Then crates/newick_figures/data/texts0
+and its stdout: Newick texts, a line each, and what is read from them.
 
 Everything here is worked out from the documents and shares nothing with the crates: lists of up to 7 taxa by brute force over every split and every four,
 the large ones in closed form (taxa that hang one after the other on a line have all 2n-3 splits; zeros have none)."""
@@ -216,10 +216,132 @@ shown = [
     (record(1, 4, matrix(A), off=1), 'no record: refused 18 at 0: the pad is not zero, or the words do not add to zero\n'),
 ]
 
+# Newick texts (document 02 §2). The tree of a list: the link of a row is the smallest cluster that strictly contains its own, a taxon's home the smallest
+# that contains it, else the root
+def newick(n, rows):
+    def smallest(fits):
+        return min((c for c, w in rows if fits(c)), default=None)  # of nested clusters the smallest is the lowest number
+    links = {c: smallest(lambda d: d != c and d & c == c) for c, w in rows}
+    homes = [smallest(lambda d: d >> i & 1) for i in range(n)]
+    def vertex(v):
+        taxa = [i for i in range(n) if homes[i] == v]
+        children = [(c, w) for c, w in rows if links[c] == v]
+        if v is not None and len(taxa) == 1 and not children:
+            return str(taxa[0])
+        return '(' + ','.join(['%d:0' % i for i in taxa] + ['%s:%d' % (vertex(c), w) for c, w in children]) + ')'
+    return vertex(None) + ';'
+
+def described(n, rows):
+    return 'tree of %d taxa: accepted\n' % n + ''.join('group %s, weight %d\n' % (' '.join(str(i) for i in groups(c, n)[1]), w) for c, w in rows)
+
+listA = [(2, 6), (4, 8), (8, 10), (12, 6), (14, 4)]
+textA = '(0:0,(1:6,(2:8,3:10):6):4);'
+assert newick(4, listA) == textA
+deepest = sorted([(1 << i, 2000000) for i in range(1, 64)] + [(sum(1 << j for j in range(i, 64)), 1999999) for i in range(1, 63)])
+assert len(deepest) == 125 and len(newick(64, deepest)) == 1310
+
+ends = 'the text ends before its semicolon'
+names = 'no names are taken: a taxon is its number'
+spaces = 'no spaces are taken'
+quotes = 'no quotes are taken: a taxon is its number'
+zero = 'a number has no leading zero'
+length = 'a length is missing: a colon and a whole number'
+alike = 'two edges part the taxa alike: '
+root = (alike + 'the root has two branches. Give one of them the sum of both lengths and put the children of the other at the root (or give the other 0): '
+        '((0:1,1:2):3,(2:4,3:5):6); becomes (0:1,1:2,(2:4,3:5):9);')
+one = alike + 'make one edge of them with the sum of both lengths'
+bare = 'no taxon lies beyond this edge: take the brackets and the length around the whole away'
+
+# what is accepted: n, the text, the list
+taken = [
+    (4, textA, listA),
+    (4, textA + '\nand more', listA),
+    (4, '(3:10,2:8,(0:4,1:6):6);', listA),  # rooted elsewhere
+    (4, '((0:1,1:2):0,(2:4,3:5):9);', [(2, 2), (4, 4), (8, 5), (12, 9), (14, 1)]),  # what the advice at 13 comes to, both ways
+    (4, '(0:1,1:2,(2:4,3:5):9);', [(2, 2), (4, 4), (8, 5), (12, 9), (14, 1)]),
+    (2, '(0:0,1:0);', []),
+    (2, '(0:2000000,1:0);', [(2, 2000000)]),
+    (3, '((0:0,1:0):7,2:0);', [(4, 7)]),
+    (64, newick(64, deepest), deepest),
+]
+
+# what is refused: n, the text with a ^ before the byte at the refusal's place, the number, the reason
+wrong = [
+    (4, '^', 19, ends),
+    (4, '(0:1,1:2^', 19, ends),
+    (4, '(0:1,1:2)^\n', 19, ends),
+    (4, '(0:1,1:2)^\n;', 19, spaces),
+    (4, '(0:1,^ 1:2);', 19, spaces),
+    (4, '(0:1,^\t1:2);', 19, spaces),
+    (4, "(^'a':1,1:2);", 19, quotes),
+    (4, '(^"a":1,1:2);', 19, quotes),
+    (4, '(^human:1,1:2);', 19, names),
+    (4, '(0:1,1:2)^_root;', 19, names),
+    (4, '(0:1^e5,1:2);', 19, 'a number has digits only'),
+    (4, '(0:0^.5,1:2);', 19, 'a length is a whole number'),
+    (4, '(0:^-5,1:2);', 19, 'no sign is taken: a length is 0 or above'),
+    (4, '(0:^+5,1:2);', 19, 'no sign is taken: a length is 0 or above'),
+    (4, '^[c](0:1,1:2);', 19, 'no comments are taken'),
+    (4, '(' * 130 + '^(0:1' + '):1' * 130 + ');', 19, 'brackets are nested more than 130 deep'),
+    (4, '(0:1^(', 19, "'(' cannot stand here"),
+    (4, '(0^1:1,1:2);', 19, zero),
+    (4, '(0:0^0,1:2);', 19, zero),
+    (4, '(0^,1:2);', 19, length),
+    (4, '((0:1,1:2)^,2:3,3:4);', 19, length),
+    (4, '(0:1,1:^);', 19, length),
+    (4, '((0:1,1:2)^95:3,2:4);', 19, 'no number is taken right behind a bracket'),
+    (4, '(0:1,1:2)^:3;', 19, 'no length is taken around the whole: a semicolon ends the text'),
+    (4, '(0:1,1:2^;', 19, 'a bracket is still open'),
+    (4, '(0:1,1:2)^);', 19, "')' cannot stand here"),
+    (4, '^5;', 19, "'5' cannot stand here"),
+    (4, '(0:1,^\xe9', 19, 'byte 195 cannot stand here'),
+    (4, '(0:1,1:2,3:4)^;', 20, 'taxon 2 is missing: a text has each taxon once, from 0 to 3'),
+    (4, '(0:1,1:2,^0:3,9:4);', 20, 'this taxon came before'),
+    (4, '(0:1,1:2,^4:3,3:4);', 20, 'this taxon is not below 4'),
+    (4, '(0:1,1:2,^18446744073709551616:3,3:4);', 20, 'this taxon is not below 4'),
+    (4, '(0:1,1:^2000001,2:3,3:4);', 14, 'this length is above 2,000,000'),
+    (3, '((0:1,1:2,2:3):^5);', 12, bare),
+    (4, '((0:1,1:2):^3,(2:4,3:5):6);', 13, root),
+    (2, '(0:^5,1:3);', 13, root),
+    (4, '(0:0,((1:2,2:3):^4):5,3:6);', 13, one),
+    (4, '(0:0,((1:2,2:3,3:6):^4):5);', 13, one),
+]
+read = [('%d\n%s' % (n, text), described(n, rows)) for n, text, rows in taken]
+for n, text, number, reason in wrong:
+    place = len(text[:text.index('^')].encode())
+    read.append(('%d\n%s' % (n, text.replace('^', '')), 'refused %d at %d: %s\n' % (number, place, reason)))
+read.append(('4 more\n(0:1', 'refused 19 at 4: the text goes on behind 65,536 bytes\n'))
+read = [(text.encode(), says) for text, says in read]
+
+# records to texts
+fives = b'\1\1\1\1\1'
+told = [
+    (a, textA + '\n'),
+    (a + b'more', textA + '\n'),
+    (record(1, 2, matrix([[0, 0], [0, 0]])), '(0:0,1:0);\n'),
+    (record(1, 2, matrix([[0, 1000000], [1000000, 0]])), '(0:0,1:2000000);\n'),
+    (record(2, 5, fives), newick(5, supported_table(fives, 5)) + '\n'),
+    (record(2, 3, b''), '(0:0,(1:1,2:1):1);\n'),
+    (tree_record(4, 3, [2, 2, 3], [3, 2, 0, 1], [8, 10, 4]), '(0:0,(1:0,2:8,3:10):4);\n'),
+    (tree_record(4, 3, [3, 0, 0], [3, 0, 1, 2], [4, 8, 10]), '(0:0,(1:0,2:8,3:10):4);\n'),  # the same, numbered freely
+    (tree_record(4, 1, [1], [1, 0, 0, 1], [7]), '(0:0,3:0,(1:0,2:0):7);\n'),
+    (tree_record(2, 0, [], [0, 0], []), '(0:0,1:0);\n'),
+    (record(1, 64, bytes(4 * 64 * 64)), newick(64, []) + '\n'),
+    (record(1, 4, matrix(with_entry(3, 1, 12))), 'refused 5 at 7: the two entries of a pair differ\n'),
+    (record(1, 4, matrix(with_entry(0, 3, 1000001))), 'refused 4 at 3: a distance is above 1,000,000\n'),
+    (record(2, 5, b'\1\1\1\4\1'), 'refused 6 at 3: a table byte is above 3\n'),
+    (tree_record(3, 2, [1, 0], [2, 0, 1], [1, 1]), 'refused 10 at 0: the walk up from this vertex never reaches the root\n'),
+    (b'', 'refused 16 at 0: the record is cut\n'),
+    (textA.encode(), 'refused 15 at 0: the mark is not that of a record\n'),
+    (record(9, 4, matrix(A)), 'refused 17 at 0: the kind is not known\n'),
+    (record(1, 65, b''), 'refused 1 at 0: the number of taxa is not from 2 to 64\n'),
+    (record(1, 4, matrix(A), off=1), 'refused 18 at 0: the pad is not zero, or the words do not add to zero\n'),
+]
+
 os.makedirs(os.path.join(OUT, 'data'), exist_ok=True)
 for f in os.listdir(os.path.join(OUT, 'data')):
     os.remove(os.path.join(OUT, 'data', f))
-files = [('v', [(b, says) for what, b, says in cases]), ('w', walks), ('t', texts), ('s', shown)]
+files = [('v', [(b, says) for what, b, says in cases]), ('w', walks), ('t', texts), ('s', shown), ('n', read), ('o', told)]
 with open(os.path.join(OUT, 'stdout'), 'wb') as out:
     for asked, group in files:
         for i, (b, says) in enumerate(group):
@@ -476,7 +598,7 @@ for i in range(len(good)):
 
 NEWICK = os.path.join(HERE, '..', 'crates', 'newick_figures')
 os.makedirs(os.path.join(NEWICK, 'data'), exist_ok=True)
-with open(os.path.join(NEWICK, 'data', 'texts'), 'wb') as data, open(os.path.join(NEWICK, 'stdout'), 'w') as out:
+with open(os.path.join(NEWICK, 'data', 'texts0'), 'wb') as data, open(os.path.join(NEWICK, 'stdout'), 'w') as out:
     for i, (n, text) in enumerate(newicks):
         data.write(b'%d %s\n' % (n, text))
         answer = read_newick(n, text)

@@ -108,30 +108,30 @@ module _ (t : Shape) (tree : Rooted t) (taxa : t .taxa ≤ 64) (edges : t .edges
         item-size (children t v),
       )
 
-  own-small : (v : ℕ) → own-size v ≤ 896
+  own-small : (v : ℕ) → own-size v ≤ 320
   own-small v =
       omega (
         arith,
-        total-most (λ i. length (leafText i) + 1) (λ i. eqb (t .home i) v) 14 0 (t .taxa)
-            (λ i _ l. omega (arith, length-append (decimal i) (58 ∷ decimal 0), ten-digits i (omega arith), len-one 0 (omega arith))),
+        total-most (λ i. length (leafText i) + 1) (λ i. eqb (t .home i) v) 5 0 (t .taxa)
+            (λ i _ l. omega (arith, length-append (decimal i) (58 ∷ decimal 0), short 1 i (omega arith), len-one 0 (omega arith))),
       )
 
   none : (v : ℕ) → children t v ≡ [] → kids-size v ≡ 0
   unfolding total
   none v e = ap (total (λ c. size c + link-size c)) e
 
-  size-parts : (v : ℕ) → Way t v → (kids-size v ≤ size v) × (size v ≤ kids-size v + 897)
+  size-parts : (v : ℕ) → Way t v → (kids-size v ≤ size v) × (size v ≤ kids-size v + 321)
   size-parts v (brackets e _) = let h = ap length e in (omega (arith, h, bracket-size v), omega (arith, h, bracket-size v, own-small v))
   size-parts v (bare i b) =
       let few = those-head (λ i. eqb (t .home i) v) 0 (t .taxa) i [] (b .taxa) in
       (omega (arith, none v (b .kids)), omega (arith, ap length (b .text), ten-digits i (omega (arith, few .high))))
 
-  pub text-short : size (t .edges) ≤ 200000
+  pub text-short : size (t .edges) ≤ 65000
   text-short =
       omega (
         arith,
         whole-sum t tree size (λ v. size v - kids-size v) link-size (λ v l. let h = size-parts v (way t v) in omega (arith, h)),
-        total-most (λ c. size c - kids-size c + link-size c) every 910 0 (t .edges)
+        total-most (λ c. size c - kids-size c + link-size c) every 334 0 (t .edges)
             (λ c _ l. omega (arith, size-parts c (way t c), ten-digits (t .weight c) (light c (omega arith)))),
         size-parts (t .edges) (way t (t .edges)),
       )

@@ -1,4 +1,4 @@
--- The walk over a sentence, a token at a time: what each token does. These are the code's own steps, on its own data.
+-- The walk over a sentence, a token at a time: what each token does. These are the code's own steps, on its numbers and arrays put together.
 use Prim.Native.Nat.{ℕ, _+_, _-_}
 use mathlib.Core.Bool.{Bool, cond, not, _||_}
 use mathlib.Core.List.{List}

@@ -40,7 +40,7 @@ module _ (n : ℕ) (s : Splits) (few : n ≤ 64) (well : WellFormed weightLimit 
   light : (c : ℕ) → c < length (rowsOf s) → getD (weights (rowsOf s)) c 0 < 10000000000
   light c l = omega (arith, well .weigh (getD (weights (rowsOf s)) c 0) (mem-getD (weights (rowsOf s)) c (omega (arith, length-map (rowsOf s) (λ r. r .weight)))))
 
-  given-short : length (vertexText (shapeOf n (rowsOf s)) (length (rowsOf s))) ≤ 200000
+  pub given-short : length (vertexText (shapeOf n (rowsOf s)) (length (rowsOf s))) ≤ 65000
   given-short = text-short (shapeOf n (rowsOf s)) (rooted n (rowsOf s) up) few (omega (arith, rows-length s room, room .rows)) light
 
   module _ (ls hs : List ℕ) (links : (rows : List Row) → ClustersOf rows (s .clusters) (s .rows) → (j : ℕ) → j < s .rows → getD ls j 0 ≡ linkOf n rows j)
@@ -60,7 +60,7 @@ module _ (n : ℕ) (s : Splits) (few : n ≤ 64) (well : WellFormed weightLimit 
     same : vertexText t (s .rows) ≡ vertexText (shapeOf n (rowsOf s)) (length (rowsOf s))
     same = text-same t (shapeOf n (rowsOf s)) (s .rows) agree (s .rows) (omega arith) ∙ ap (vertexText (shapeOf n (rowsOf s))) (sym (rows-length s room))
 
-    pub arrays-short : length (vertexText t (s .rows)) ≤ 200000
+    pub arrays-short : length (vertexText t (s .rows)) ≤ 65000
     arrays-short = omega (arith, ap length same, given-short)
 
     pub text-put : (o o₁ o₂ : List ℕ) (p r : ℕ) → o₁ ≡ sets o 0 (vertexText t (s .rows)) → p ≡ 0 + length (vertexText t (s .rows)) → o₂ ≡ set o₁ p 59 → r ≡ p + 1

@@ -21,13 +21,13 @@ pub struct Number {
     pub behind: usize,
 }
 
-fn is_digit(b: u8) -> bool
+pub fn is_digit(b: u8) -> bool
     ensures { λ r. ⌜ r ≡ digit b ⌝ }
 {
     b > 47 && b < 58
 }
 
-fn is_space(b: u8) -> bool
+pub fn is_space(b: u8) -> bool
     ensures { λ r. ⌜ r ≡ space b ⌝ }
 {
     b == 32 || (b == 9 || (b == 10 || b == 13))
@@ -91,7 +91,7 @@ pub fn read_number(text: &[u8], p: usize) -> Number
 }
 
 // The number alone.
-fn number_at(text: &[u8], p: usize) -> u64
+pub fn number_at(text: &[u8], p: usize) -> u64
     ensures { λ r. ⌜ r ≡ min (numberAt (now (text .entry)) p) 4294967296 ⌝ }
 {
     let read = read_number(text, p);
