@@ -98,7 +98,7 @@ pub fn level_at(text: &[u8], p: usize) -> Level
 }
 
 // The place of the first semicolon; the end of the text where there is none.
-pub fn semicolonAt(text: &[u8]) -> usize
+pub fn semicolon(text: &[u8]) -> usize
     ensures { λ r. ⌜ r ≤ length (now (text .entry)) ⌝ }
 {
     let mut i: usize = 0;

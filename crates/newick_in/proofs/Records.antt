@@ -14,12 +14,12 @@ use Rattle.statement.specs.Matrix.{weightLimit}
 use Rattle.statement.specs.Rows.{rowsOf}
 use Rattle.statement.specs.Tree.{treeOf}
 use Rattle.statement.specs.Bytes.{treeBody, treeLength}
-use Rattle.statement.specs.Refusals.{outcomeOf}
+use Rattle.statement.specs.Refusals.{outcomeOf, newickChecks}
 use Rattle.statement.specs.Calls.{unlessRefused, refusedReading, writeTree, treeWritten}
 use Rattle.statement.proofs.Refused.{never-short}
 use Rattle.statement.proofs.WellFormed.{well-formed-is}
 use Rattle.statement.proofs.Outputs.{output-accepted}
-use Rattle.newick_meaning.specs.Parse.{newickChecks, readNewick}
+use Rattle.newick_meaning.specs.Parse.{parsed, readNewick}
 use Rattle.newick_reading.proofs.Accepted.{accepted, read-well}
 use Rattle.newick_in.specs.Records.{Covers, recordOfList, recordOfText}
 
@@ -63,7 +63,7 @@ reading-short (Refused number place) list not e = let z : _≡_ {A = ℕ} 0 1 = 
 
 pub text-done : (n : ℕ) (text : List ℕ) → ((number place : ℕ) → readNewick n text .outcome ≡ Refused number place → ⊥) → readNewick n text .outcome ≡ Done
 unfolding readNewick
-text-done n text not = by-cases _ (reading-short (outcomeOf (newickChecks n text)) _ (never-short (newickChecks n text))) not
+text-done n text not = by-cases _ (reading-short (outcomeOf (newickChecks n (parsed text))) _ (never-short (newickChecks n (parsed text)))) not
 
 -- what was put at the start of a slice, whatever follows
 pub at-start : (k : ℕ) (put rest whole : List ℕ) → put ≡ whole → length put ≡ k → (take k (put ++ rest) ≡ whole) × Counts k (put ++ rest)

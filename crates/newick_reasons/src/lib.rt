@@ -2,7 +2,7 @@
 use newick_hints::byte_before;
 use newick_hints::level_at;
 use newick_hints::lowest_missing;
-use newick_hints::semicolonAt;
+use newick_hints::semicolon;
 use numerals::byte_at;
 use numerals::is_digit;
 use numerals::is_space;
@@ -83,7 +83,7 @@ fn say_byte(b: u8, before: u8, depth: usize) {
     } else if b == b',' || b == b')' {
         say_end(b, before, depth);
     } else if b == b':' && before == b')' {
-        say(b"no length is taken around the whole: a semicolonAt ends the text");
+        say(b"no length is taken around the whole: a semicolon ends the text");
     } else if b == b';' && depth > 0 {
         say(b"a bracket is still open");
     } else {
@@ -98,10 +98,10 @@ fn say_outside(text: &[u8], p: usize, more: bool) {
         if more {
             say(b"the text goes on behind 65,536 bytes");
         } else {
-            say(b"the text ends before its semicolonAt");
+            say(b"the text ends before its semicolon");
         }
     } else if !more && b == 10 && text.len() - p == 1 {
-        say(b"the text ends before its semicolonAt");
+        say(b"the text ends before its semicolon");
     } else {
         let l = level_at(text, p);
         say_byte(b, byte_before(text, p), l.depth);
@@ -127,7 +127,7 @@ fn say_taxon(n: usize, text: &[u8], p: usize) {
 fn say_alike(text: &[u8], p: usize) {
     say(b"two edges part the taxa alike: ");
     let here = level_at(text, p);
-    let all = level_at(text, semicolonAt(text));
+    let all = level_at(text, semicolon(text));
     if here.depth == 1 && all.commas == 1 {
         say(
             b"the root has two branches. Give one of them the sum of both lengths and put the children of the other at the root",

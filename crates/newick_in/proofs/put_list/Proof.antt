@@ -1,7 +1,7 @@
 -- `newick_in::put_list` meets its contract. Assumes nothing.
 use native.Mathlib.Omega.{arith}
 use mathlib.Core.Path.{_≡_, sym, _∙_, ap}
-use lib.ListN.{length, take}
+use lib.ListN.{length}
 use lib.Seq.{length-take-le}
 use Rattle.statement.specs.Record.{recordLength}
 use Rattle.newick_in.proofs.Records.{tree-taken, at-start}
