@@ -4,7 +4,7 @@ use native.Mathlib.Decide.{le-ind}
 use mathlib.Core.Path.{_≡_, refl, sym, _∙_, ap}
 use mathlib.Core.List.{List, [], _∷_, _++_, append-assoc}
 use Rattle.statement.specs.Rows.{Row, row}
-use Rattle.statement.specs.Sentence.{Children, leaf, group, leafThen, groupThen, numeralText, childrenText, Fits, value, taxaOf}
+use Rattle.statement.specs.Sentence.{Children, leaf, group, leafThen, groupThen, numeralText, childrenText, Fits, value}
 use Rattle.statement.specs.Moves.{join}
 use Rattle.newick_back.specs.Held.{mask, rowsBelow}
 
@@ -34,13 +34,6 @@ fits-suc (groupThen f w r) (suc l) h = (fits-suc f l (h .0), fits-suc r (suc l) 
 
 pub fits-more : (f : Children) (l m : ℕ) → l ≤ m → Fits f l → Fits f m
 fits-more f l m h k = le-ind (λ (n : ℕ). Fits f n) k (λ n _ e. fits-suc f n e) m h
-
-pub join-taxa : (f g : Children) → taxaOf (join f g) ≡ taxaOf f ++ taxaOf g
-unfolding join taxaOf
-join-taxa (leaf x w) g = refl
-join-taxa (group f w) g = refl
-join-taxa (leafThen x w r) g = ap (λ (l : List ℕ). value x ∷ l) (join-taxa r g)
-join-taxa (groupThen f w r) g = ap (λ (l : List ℕ). taxaOf f ++ l) (join-taxa r g) ∙ sym (append-assoc (taxaOf f) (taxaOf r) (taxaOf g))
 
 pub join-edges : (f g : Children) → rowsBelow (join f g) ≡ rowsBelow f ++ rowsBelow g
 unfolding join rowsBelow

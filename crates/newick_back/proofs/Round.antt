@@ -1,10 +1,9 @@
 -- THE ROUND TRIP: the text written of a list, whatever stands behind it, is read back as that list. Document 02, §2. Assumes nothing.
-use Prim.Native.Nat.{ℕ, suc, _+_, _^_, _≤_}
+use Prim.Native.Nat.{ℕ, _+_, _^_, _≤_}
 use native.Mathlib.Omega.{arith}
 use mathlib.Core.Path.{_≡_, refl, sym, _∙_, ap, ap₂, subst}
 use mathlib.Core.Bool.{Bool, true, false, cond, not}
 use mathlib.Core.List.{List, [], _∷_, _++_, map}
-use lib.Dec.{ltb, eqb}
 use lib.ListN.{length}
 use borrow.Author.Tests.{ne-eqb, le-ltb}
 use Rattle.statement.specs.declared.Splits.{Splits}
@@ -13,23 +12,23 @@ use Rattle.statement.specs.Cluster.{bit, Out, groupOf}
 use Rattle.statement.specs.Matrix.{weightLimit}
 use Rattle.statement.specs.Rows.{Row, row, clusters, weights, rowsOf, listOf}
 use Rattle.statement.specs.Tree.{sortRows}
-use Rattle.statement.specs.Refusals.{Passed, AllPassed, outcomeOf, newickChecks, twins, badAt, sentenceChecks}
-use Rattle.statement.proofs.Accepted.{taxa-passed}
 use Rattle.statement.proofs.Enlarged.{WellRows}
 use Rattle.statement.proofs.Groups.{group-bit}
 use Rattle.statement.proofs.Listed.{asc-mem}
-use Rattle.statement.proofs.Refused.{passed-done}
 use Rattle.splits_list.proofs.Whole.{taken-rows, done-taken, done-filled}
 use Rattle.row_sort.proofs.Sorting.{Held, held-mem, sort-held}
-use Rattle.statement.specs.Sentence.{Children, Edge, among, edgesAt, splitMade, keptEdges, sentence, clustersOf, semicolonAt, rowOf}
+use Rattle.statement.specs.Sentence.{Children, Edge, among, edgesAt, splitMade, keptEdges, clustersOf, rowOf}
 use Rattle.newick_meaning.specs.Parse.{readNewick}
 use Rattle.statement.specs.NewickText.{newickOf, newickLength}
 use Rattle.statement.specs.Calls.{writeNewick, newickWritten}
 use Rattle.newick_back.specs.Held.{mask, rowsBelow, positive}
 use Rattle.newick_meaning.proofs.Unique.{sentence-read}
+use Rattle.newick_reading.proofs.Same.{tooHeavy, isBare}
+use Rattle.newick_reading.proofs.Accepted.{Accepted}
+use Rattle.newick_reading.proofs.Passing.{none-missing, places-none, twins-none, later-none, accepted-reply}
 use Rattle.newick_back.proofs.Counts.{count}
 use Rattle.newick_back.proofs.Sorted.{rowTotal, sort-total}
-use Rattle.newick_back.proofs.Said.{count-none, All, all-map, all-both, all-kept, Few, all-few, rowBelow, edges-are, kept-are, all-held, places-none, twins-none, rowOne, rows-count, asc-once, group-taxa, no-strays, none-missing, once, low}
+use Rattle.newick_back.proofs.Said.{All, all-map, all-both, all-in, all-kept, Few, all-few, rowBelow, edges-are, kept-are, all-held, different-once, rowOne, rows-count, asc-once, group-taxa, taxa-good, taxa-all, once, low}
 use Rattle.newick_back.proofs.Back.{Holds, newick-holds}
 
 module _ (n : ℕ) (rows : List Row) (two : 2 ≤ n) (few : n ≤ 64) (well : WellRows weightLimit n rows) where
@@ -98,33 +97,24 @@ module _ (n : ℕ) (rows : List Row) (two : 2 ≤ n) (few : n ≤ 64) (well : We
       let b = sym (sort-total (rowOne c) (positive (rowsBelow f))) ∙ ap (rowTotal (rowOne c)) (holds .edges) ∙ sym (rows-count c rows) in
       omega (arith, a, b, asc-once c 1 (2 ^ n) (clusters rows) (well .clean .up))
 
-  no-twins : twins n [] edges ≡ []
-  no-twins = twins-none n [] edges (λ c. omega (arith, cluster-once c, count-none c))
-
-  -- EVERY CHECK IS PASSED, and the rows are given
-  none-bad : (number places : ℕ) (xs : List ℕ) → xs ≡ [] → Passed (badAt number xs places)
-  none-bad number places xs e i l = ap (among i) e
-
-  passes : AllPassed (sentenceChecks n f)
-  passes = (
-    none-bad 20 (suc (semicolonAt f)) _ (ap₂ (λ (a b : List ℕ). a ++ b) (no-strays n f (holds .taxa) 1) (none-missing n f (holds .taxa))),
-    (
-      none-bad 14 (suc (semicolonAt f)) _ (places-none (λ e. ltb weightLimit (e .weight)) edges
-          (all-map Good (λ e. ltb weightLimit (e .weight) ≡ false) edges (λ e h. le-ltb weightLimit (e .weight) (h .light)) all-good)),
-      (
-        none-bad 12 (suc (semicolonAt f)) _ (places-none (λ e. eqb (splitMade n e) 0) edges
-            (all-map Good (λ e. eqb (splitMade n e) 0 ≡ false) edges (λ e h. ne-eqb (splitMade n e) 0 (λ z. omega (arith, h .cluster, h .some))) all-good)),
-        (none-bad 13 (suc (semicolonAt f)) _ no-twins, tt),
-      ),
-    ),
-  )
+  -- THE SENTENCE IS ACCEPTED
+  whole-sentence : Accepted n f
+  whole-sentence = record {
+    two = two;
+    few = few;
+    taxa = taxa-good n f (holds .taxa);
+    whole = none-missing n f (taxa-all n f (holds .taxa));
+    light = places-none tooHeavy edges (all-in (λ e. tooHeavy e ≡ false) edges (all-map Good (λ e. tooHeavy e ≡ false) edges (λ e h. le-ltb weightLimit (e .weight) (h .light)) all-good));
+    full = places-none (isBare n) edges
+        (all-in (λ e. isBare n e ≡ false) edges (all-map Good (λ e. isBare n e ≡ false) edges (λ e h. ne-eqb (splitMade n e) 0 (λ z. omega (arith, h .cluster, h .some))) all-good));
+    apart = twins-none n edges [] (later-none n edges) (different-once (map (rowOf n) edges) (λ c. omega (arith, cluster-once c, ap (count c) (clusters-are edges))));
+  }
 
   -- THE TEXT READ BACK
   pub newick-read : (s : List ℕ) → readNewick n (newickOf n rows ++ s) ≡ record { outcome = Done; list = listOf n rows }
   newick-read s =
-      let done : outcomeOf (newickChecks n (sentence f)) ≡ Done = passed-done (newickChecks n (sentence f)) (taxa-passed n .1 (two, few), passes) in
-      sentence-read n f (newickOf n rows ++ s) s (holds .fits) (holds .text s)
-      ∙ rw done (ap (λ (r : List Row). record { outcome = Done; list = listOf n r }) (ap sortRows rows-are ∙ holds .edges))
+      sentence-read n f (newickOf n rows ++ s) s (holds .fits) (holds .text s) ∙ accepted-reply n f whole-sentence
+      ∙ ap (λ (r : List Row). record { outcome = Done; list = listOf n r }) (ap sortRows rows-are ∙ holds .edges)
 
 -- what the writer wrote of a list, with anything behind it, is read back as that list
 pub write-read : (n : ℕ) (s : Splits) (out more : List ℕ) → length (s .clusters) ≡ 125 → length (s .weights) ≡ 125

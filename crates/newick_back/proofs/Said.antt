@@ -3,18 +3,18 @@
 use Prim.Native.Nat.{ℕ, suc, _+_, _^_, _≤_, _<_}
 use native.Mathlib.Omega.{arith}
 use native.Mathlib.Decide.{decLt, ℕ-discrete}
-use mathlib.Core.Path.{_≡_, refl, sym, _∙_, ap, ap₂}
+use mathlib.Core.Path.{_≡_, refl, sym, _∙_, ap, ap₂, subst}
 use mathlib.Core.Logic.{inl, inr}
-use mathlib.Core.Bool.{Bool, true, false, cond, not, _||_}
+use mathlib.Core.Bool.{Bool, true, false, cond, _||_}
 use mathlib.Core.List.{List, [], _∷_, _++_, map, append-assoc}
 use lib.Dec.{ltb, eqb}
 use borrow.Author.Tests.{eq-eqb, ne-eqb, lt-ltb, le-ltb}
 use Rattle.statement.specs.Cluster.{groupOf}
-use Rattle.statement.specs.Rows.{Row, row, clusters, Ascending}
-use Rattle.statement.proofs.Lowest.{none-at}
-use Rattle.row_sort.proofs.Sorting.{Held}
-use Rattle.statement.specs.Sentence.{Children, leaf, group, leafThen, groupThen, value, Leaf, Edge, among, taxaOf, leavesAt, edgesAt, splitMade, keptEdges, clustersOf}
-use Rattle.statement.specs.Refusals.{placesOf, strays, twins, missing}
+use Rattle.statement.specs.Rows.{Row, row, clusters, Mem, Ascending}
+use Rattle.row_sort.proofs.Sorting.{Held, Different}
+use Rattle.statement.specs.Sentence.{Children, leaf, group, leafThen, groupThen, value, Edge, among, taxaOf, edgesAt, keptEdges}
+use Rattle.newick_noted.proofs.Taxa.{Good}
+use Rattle.newick_reading.proofs.Nested.{InE}
 use Rattle.newick_list.proofs.Sums.{total, total-append}
 use Rattle.newick_back.specs.Held.{mask, rowsBelow, positive}
 use Rattle.newick_back.proofs.Counts.{one, count, mask-total, parts-group}
@@ -72,42 +72,22 @@ pub group-taxa : (n : ℕ) (xs : List ℕ) → ((i : ℕ) → count i xs ≤ 1) 
 group-taxa n xs once low =
     mask-total xs ∙ total-below (λ x. 2 ^ x) n xs low ∙ parts-group xs (λ i. among i xs) n (λ i l. count-among i xs (once i))
 
--- THE LEAVES
-abbrev taxonOf : Leaf → ℕ
-taxonOf l = l .taxon
+-- THE TAXA: none repeated, none that is not below n
+pub good-count : (n : ℕ) (before xs : List ℕ) → ((i : ℕ) → count i xs + count i before ≤ 1) → ((i : ℕ) → n ≤ i → count i xs ≡ 0) → Good n before xs
+good-count n before [] once low = tt
+good-count n before (x ∷ xs) once low = (
+  below (decLt x n),
+  among-none x before (omega (arith, once x, count-cons x x xs, one-own x)),
+  good-count n (x ∷ before) xs (λ i. omega (arith, once i, count-cons i x xs, count-cons i x before)) (λ i k. omega (arith, low i k, count-cons i x xs)),
+)
+  where
+    below : Dec (x < n) → x < n
+    below (yes k) = k
+    below (no k) = absurd (omega (arith, low x (omega arith), count-cons x x xs, one-own x))
 
 map-two : {A B : Type 0} (f : A → B) (xs ys : List A) → map f (xs ++ ys) ≡ map f xs ++ map f ys
 map-two f [] ys = refl
 map-two f (x ∷ xs) ys = ap (λ l. f x ∷ l) (map-two f xs ys)
-
-pub leaves-taxa : (p : ℕ) (f : Children) → map taxonOf (leavesAt p f) ≡ taxaOf f
-unfolding leavesAt taxaOf
-leaves-taxa p (leaf x w) = refl
-leaves-taxa p (group f w) = leaves-taxa _ f
-leaves-taxa p (leafThen x w r) = ap (λ (l : List ℕ). value x ∷ l) (leaves-taxa _ r)
-leaves-taxa p (groupThen f w r) = map-two taxonOf (leavesAt _ f) (leavesAt _ r) ∙ ap₂ (λ (a b : List ℕ). a ++ b) (leaves-taxa _ f) (leaves-taxa _ r)
-
-strays-none : (n : ℕ) (before : List ℕ) (ls : List Leaf) → ((i : ℕ) → count i (map taxonOf ls) + count i before ≤ 1)
-    → ((i : ℕ) → n ≤ i → count i (map taxonOf ls) ≡ 0) → strays n before ls ≡ []
-unfolding strays
-strays-none n before [] once low = refl
-strays-none n before (l ∷ ls) once low =
-    rw (lt-ltb x n below, among-none x before none)
-    (strays-none n (x ∷ before) ls (λ i. omega (arith, once i, count-cons i x (map taxonOf ls), count-cons i x before))
-    (λ i k. omega (arith, low i k, count-cons i x (map taxonOf ls))))
-  where
-    x : ℕ
-    x = l .taxon
-
-    none : count x before ≡ 0
-    none = omega (arith, once x, count-cons x x (map taxonOf ls), one-own x)
-
-    below : x < n
-    below = go (decLt x n)
-      where
-        go : Dec (x < n) → x < n
-        go (yes k) = k
-        go (no k) = absurd (omega (arith, low x (omega arith), count-cons x x (map taxonOf ls), one-own x))
 
 -- THE EDGES, one by one
 abbrev pub All : (Edge → Type 0) → List Edge → Type 0
@@ -125,6 +105,11 @@ all-map P Q (x ∷ xs) f h = (f x (h .0), all-map P Q xs f (h .1))
 pub all-both : (P Q : Edge → Type 0) (xs : List Edge) → All P xs → All Q xs → All (λ e. P e × Q e) xs
 all-both P Q [] h k = tt
 all-both P Q (x ∷ xs) h k = ((h .0, k .0), all-both P Q xs (h .1) (k .1))
+
+pub all-in : (P : Edge → Type 0) (xs : List Edge) → All P xs → (e : Edge) → InE e xs → P e
+all-in P [] h e i = absurd i
+all-in P (x ∷ xs) h e (inl q) = subst P (sym q) (h .0)
+all-in P (x ∷ xs) h e (inr i) = all-in P xs (h .1) e i
 
 pub all-kept : (P : Edge → Type 0) (xs : List Edge) → All P xs → All P (keptEdges xs)
 unfolding keptEdges
@@ -182,24 +167,18 @@ pub all-held : (es : List Edge) → All (λ e. Held (rowBelow e) (map rowBelow e
 all-held [] = tt
 all-held (e ∷ es) = (inl refl, all-map (λ x. Held (rowBelow x) (map rowBelow es)) (λ x. Held (rowBelow x) (map rowBelow (e ∷ es))) es (λ x h. inr h) (all-held es))
 
--- no place where none is bad
-pub places-none : (test : Edge → Bool) (es : List Edge) → All (λ e. test e ≡ false) es → placesOf test es ≡ []
-unfolding placesOf
-places-none test [] h = refl
-places-none test (e ∷ es) h = rw (h .0) (places-none test es (h .1))
+-- rows whose clusters come once each
+count-mem : (c : ℕ) (xs : List ℕ) → Mem c xs → 0 < count c xs
+count-mem c [] m = absurd m
+count-mem c (x ∷ xs) (inl e) = omega (arith, count-cons c x xs, ap (one c) (sym e), one-own c)
+count-mem c (x ∷ xs) (inr m) = omega (arith, count-cons c x xs, count-mem c xs m)
 
-pub twins-none : (n : ℕ) (before : List ℕ) (es : List Edge) → ((c : ℕ) → count c (clustersOf n es) + count c before ≤ 1) → twins n before es ≡ []
-unfolding twins clustersOf
-twins-none n before [] once = refl
-twins-none n before (e ∷ es) once =
-    rw (among-none x before (omega (arith, own)), among-none x (clustersOf n es) (omega (arith, own)))
-    (twins-none n (x ∷ before) es (λ c. omega (arith, once c, count-cons c x (clustersOf n es), count-cons c x before)))
-  where
-    x : ℕ
-    x = splitMade n e
-
-    own : count x (clustersOf n es) + count x before ≤ 0
-    own = omega (arith, once x, count-cons x x (clustersOf n es), one-own x)
+pub different-once : (rows : List Row) → ((c : ℕ) → count c (clusters rows) ≤ 1) → Different rows
+different-once [] once = tt
+different-once (r ∷ rs) once = (
+  (λ m. omega (arith, once (r .cluster), count-cons (r .cluster) (r .cluster) (clusters rs), one-own (r .cluster), count-mem (r .cluster) (clusters rs) m)),
+  different-once rs (λ c. omega (arith, once c, count-cons c (r .cluster) (clusters rs))),
+)
 
 -- the clusters of ascending rows, each at most once
 abbrev pub rowOne : ℕ → Row → ℕ
@@ -223,7 +202,7 @@ asc-once c low high (x ∷ xs) up = go (ℕ-discrete x c) (asc-once c (suc x) hi
     go (yes e) ih = omega (arith, count-cons c x xs, ap (one c) e, one-own c, low-none c (suc x) high xs (omega arith) (up .1))
     go (no o) ih = omega (arith, count-cons c x xs, one-other c x o)
 
--- THE TAXA: none astray, none missing
+-- THE TAXA of a sentence, each of those below n once
 module _ (n : ℕ) (f : Children) (each : (i : ℕ) → count i (taxaOf f) ≡ cond (ltb i n) 1 0) where
   pub once : (i : ℕ) → count i (taxaOf f) ≤ 1
   once i = omega (arith, each i, small (ltb i n))
@@ -235,13 +214,11 @@ module _ (n : ℕ) (f : Children) (each : (i : ℕ) → count i (taxaOf f) ≡ c
   pub low : (i : ℕ) → n ≤ i → count i (taxaOf f) ≡ 0
   low i l = each i ∙ rw (le-ltb i n l)
 
-  pub no-strays : (p : ℕ) → strays n [] (leavesAt p f) ≡ []
-  no-strays p =
-      strays-none n [] (leavesAt p f) (λ i. omega (arith, ap (count i) (leaves-taxa p f), once i, count-none i)) (λ i l. ap (count i) (leaves-taxa p f) ∙ low i l)
+  pub taxa-good : Good n [] (taxaOf f)
+  taxa-good = good-count n [] (taxaOf f) (λ i. omega (arith, once i, count-none i)) low
 
-  pub none-missing : missing n f ≡ []
-  unfolding missing
-  none-missing = rw (none-at (λ x. not (among x (taxaOf f))) n (λ x l. ap not (among-some x (taxaOf f) (omega (arith, each x, here x l)))))
+  pub taxa-all : (x : ℕ) → x < n → among x (taxaOf f) ≡ true
+  taxa-all x l = among-some x (taxaOf f) (omega (arith, each x, here))
     where
-      here : (x : ℕ) → x < n → _≡_ {A = ℕ} (cond (ltb x n) 1 0) 1
-      here x l = rw (lt-ltb x n l)
+      here : _≡_ {A = ℕ} (cond (ltb x n) 1 0) 1
+      here = rw (lt-ltb x n l)

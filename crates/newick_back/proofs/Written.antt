@@ -17,7 +17,8 @@ use Rattle.newick_list.proofs.Room.{Bare, Way, bare, brackets, way, alone-is}
 use Rattle.statement.specs.Moves.{join}
 use Rattle.newick_back.specs.Held.{mask, rowsBelow}
 use Rattle.newick_back.specs.Drawn.{gathered, taxaIn, edgeAt, leafEdge, edgesIn}
-use Rattle.newick_back.proofs.Joined.{join-text, join-fits, fits-more, join-taxa, join-edges}
+use Rattle.newick_meaning.proofs.Join.{join-taxa}
+use Rattle.newick_back.proofs.Joined.{join-text, join-fits, fits-more, join-edges}
 use Rattle.newick_back.proofs.Steps.{taxa-is, edges-is}
 
 -- a text that is one or more children, nested at most l deep, with these edges and taxa

@@ -13,8 +13,9 @@ use Rattle.statement.specs.Sentence.{Children, among, taxaOf, splitMade, leaves
 use Rattle.statement.specs.Refusals.{strays, missing, placesOf, twins, taxonOff, heavyOff, bareOff, splitOff}
 use Rattle.statement.proofs.Lowest.{some-at, some-of}
 use Rattle.statement.proofs.Tests.{less-is, same-is}
+use Rattle.newick_reading.proofs.Room.{among-mem, mem-among}
 use Rattle.newick_claims.specs.Newick.{Astray, Missing, EdgeAt, TooHeavy, Bare, Twin}
-use Rattle.newick_claims.proofs.Places.{among-mem, mem-among, stray-is, places-are, twin-is}
+use Rattle.newick_claims.proofs.Places.{stray-is, places-are, twin-is}
 
 -- one of two lists
 mem-either : (p : ℕ) (xs ys : List ℕ) → Mem p (xs ++ ys) → Mem p xs ⊎ Mem p ys

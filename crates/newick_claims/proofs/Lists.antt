@@ -3,29 +3,30 @@
 use Prim.Native.Nat.{ℕ, _≤_, _<_}
 use native.Mathlib.Omega.{arith}
 use mathlib.Core.Path.{_≡_, refl, sym, _∙_, ap, subst}
-use mathlib.Core.Logic.{_⊎_, inl, inr, _↔_}
+use mathlib.Core.Logic.{inl, inr, _↔_}
 use mathlib.Core.Bool.{Bool, true, false, cond, not, true≢false}
-use mathlib.Core.List.{List, [], _∷_, _++_, map}
+use mathlib.Core.List.{List, [], _∷_, map}
 use Rattle.statement.specs.declared.Splits.{Splits}
 use Rattle.statement.specs.declared.Reading.{Reading}
 use Rattle.statement.specs.declared.Outcome.the-variants.{Done}
 use Rattle.statement.specs.Cluster.{bit, In}
 use Rattle.statement.specs.Rows.{Row, row, Mem, rowsOf, listOf}
 use Rattle.statement.specs.Tree.{sortRows}
-use Rattle.statement.specs.Sentence.{Children, Edge, among, Parsed, sentence, Parses, edgesAt, splitMade, beyond, edgesOf, rowOf}
+use Rattle.statement.specs.Sentence.{Children, Edge, among, sentence, Parses, edgesAt, splitMade, beyond, edgesOf, rowOf}
 use Rattle.statement.specs.Moves.{Moved}
-use Rattle.statement.specs.Calls.{writeNewick}
 use Rattle.statement.proofs.Groups.{group-bit}
 use Rattle.statement.proofs.Lists.{rows-of-list}
 use Rattle.row_sort.proofs.Sorting.{Held, sort-held}
 use Rattle.newick_meaning.specs.Parse.{readNewick}
 use Rattle.newick_meaning.proofs.Unique.{grammar-settles}
 use Rattle.newick_reading.proofs.Accepted.{sentence-accepted, read-well}
-use Rattle.newick_moves.proofs.Unmoved.{accepted-reply, moved-read}
+use Rattle.newick_reading.proofs.Passing.{accepted-reply}
+use Rattle.newick_moves.proofs.Unmoved.{moved-read}
 use Rattle.newick_back.proofs.Round.{write-read}
 use Rattle.claims.specs.Demands.{InRoom}
+use Rattle.newick_reading.proofs.Room.{among-mem, mem-among}
 use Rattle.newick_claims.specs.Newick.{OneOf, OtherSide, NewickRead, NewickReadsBack}
-use Rattle.newick_claims.proofs.Places.{among-mem, mem-among, kept-is}
+use Rattle.newick_claims.proofs.Places.{kept-is}
 
 -- one of the rows
 row-held : (r : Row) (rows : List Row) → OneOf r rows → Held r rows

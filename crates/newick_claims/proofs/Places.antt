@@ -7,10 +7,11 @@ use mathlib.Core.Logic.{_⊎_, inl, inr, ⊎-elim, _↔_}
 use mathlib.Core.Bool.{Bool, true, false, cond, not, _||_, true≢false}
 use mathlib.Core.List.{List, [], _∷_, _++_, map}
 use lib.Dec.{ltb, eqb}
-use borrow.Author.Tests.{eq-eqb, ne-eqb, eqb-true, le-ltb, ltb-false}
+use borrow.Author.Tests.{eq-eqb, ne-eqb, le-ltb, ltb-false}
 use Rattle.statement.specs.Rows.{Mem}
 use Rattle.statement.specs.Sentence.{Leaf, Edge, among, splitMade, clustersOf, keptEdges}
 use Rattle.statement.specs.Refusals.{strays, placesOf, twins}
+use Rattle.newick_reading.proofs.Room.{among-mem, mem-among}
 use Rattle.newick_claims.specs.Newick.{OneOf, taxonOf, Astray, EdgeAt, Twin}
 
 -- one of a list, as a test
@@ -24,14 +25,6 @@ or-left b c e = rw e
 or-right : (b c : Bool) → c ≡ true → (b || c) ≡ true
 or-right true c e = refl
 or-right false c e = e
-
-pub among-mem : (x : ℕ) (xs : List ℕ) → among x xs ≡ true → Mem x xs
-among-mem x [] e = absurd (true≢false (sym e))
-among-mem x (y ∷ ys) e = ⊎-elim (λ h. inl (eqb-true x y h)) (λ h. inr (among-mem x ys h)) (either (eqb x y) (among x ys) e)
-
-pub mem-among : (x : ℕ) (xs : List ℕ) → Mem x xs → among x xs ≡ true
-mem-among x [] m = absurd m
-mem-among x (y ∷ ys) m = ⊎-elim (λ h. or-left (eqb x y) (among x ys) (eq-eqb x y h)) (λ h. or-right (eqb x y) (among x ys) (mem-among x ys h)) m
 
 -- in front of a list, where a test is passed
 front-in : (b : Bool) (p place : ℕ) (ps : List ℕ) → Mem p (cond b (place ∷ ps) ps) → ((b ≡ true) × (p ≡ place)) ⊎ Mem p ps

@@ -4,3 +4,4 @@ pub mod Parses
 pub mod Unique
 pub mod Figures
 pub mod Rest
+pub mod Join

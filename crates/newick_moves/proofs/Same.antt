@@ -133,14 +133,6 @@ ordered-rows n (first {f} {g} w r o) =
 ordered-rows n (later a {r} {s} o) = sh.then (equal (rows-with n a r)) (sh.then (front (rowsC n a) (ordered-rows n o)) (equal (sym (rows-with n a s))))
 ordered-rows n (then o p) = sh.then (ordered-rows n o) (ordered-rows n p)
 
--- THE ROOT
-pub join-taxa : (f s : Children) → taxaOf (join f s) ≡ taxaOf f ++ taxaOf s
-unfolding join taxaOf
-join-taxa (leaf x w) s = refl
-join-taxa (group f w) s = refl
-join-taxa (leafThen x w r) s = ap (λ (t : List ℕ). value x ∷ t) (join-taxa r s)
-join-taxa (groupThen f w r) s = ap (λ (t : List ℕ). taxaOf f ++ t) (join-taxa r s) ∙ sym (append-assoc (taxaOf f) (taxaOf r) (taxaOf s))
-
 pub join-rows : (n : ℕ) (f s : Children) → rawRows n (join f s) ≡ rawRows n f ++ rawRows n s
 unfolding join rawRows
 join-rows n (leaf x w) s = refl

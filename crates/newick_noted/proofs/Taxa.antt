@@ -28,13 +28,6 @@ taxa ls = map (λ l. l .taxon) ls
 abbrev pub metGroup : ℕ → List ℕ → ℕ
 metGroup n before = groupOf (λ x. among x before) n
 
-pub above-cap : (n x : ℕ) → n ≤ 64 → ltb (min x numberLimit) n ≡ ltb x n
-above-cap n x h = go (decLt x n)
-  where
-    go : Dec (x < n) → ltb (min x numberLimit) n ≡ ltb x n
-    go (yes l) = let e : min x numberLimit ≡ x = omega arith in ap (λ (k : ℕ). ltb k n) e
-    go (no l) = le-ltb (min x numberLimit) n (omega arith) ∙ sym (le-ltb x n (omega arith))
-
 -- a taxon that is no stray is fresh, and the other way round
 module _ (n : ℕ) (few : n ≤ 64) (before : List ℕ) (x : ℕ) where
   abbrev stray : Bool

@@ -68,10 +68,6 @@ unfolding bytesOf
 ahead f text rest e =
     ((tt, tokens-sep f (closes ∷ []) tt (tt, tt)), (rest, e ∙ ap (λ (s : List ℕ). 40 ∷ s) (bytes-tokens f (closes ∷ []) (59 ∷ rest))))
 
-begun-at : begun .at ≡ 0
-unfolding begun
-begun-at = refl
-
 pub walked : (n : ℕ) (f : Children) (text rest : List ℕ) (r : Walk) → Fits f 129 → text ≡ 40 ∷ childrenText f (41 ∷ 59 ∷ rest) → Walks n text begun r → Walked n f r
 unfolding begun
 walked n f text rest r i e w =

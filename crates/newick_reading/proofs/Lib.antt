@@ -5,3 +5,4 @@ pub mod Same
 pub mod Reply
 pub mod Ways
 pub mod Accepted
+pub mod Passing

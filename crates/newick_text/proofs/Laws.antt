@@ -11,7 +11,7 @@ use lib.Seq.{drop-cons}
 use borrow.Author.Tests.{lt-ltb, le-ltb, ne-eqb}
 use Rattle.newick_text.specs.declared.Took.{Took}
 use Rattle.newick_text.specs.declared.Took.the-variants.{Past, Bad}
-use Rattle.newick_text.specs.Automaton.{Use, taxon, weight, State, start, want, some, over, close, stop, end, move, bad, good, opened, first, next, run, never, inside, Colon, ran, whole, placeOf, law-move, law-stop, law-good}
+use Rattle.newick_text.specs.Automaton.{Use, taxon, weight, State, start, want, some, over, close, stop, end, move, bad, good, first, next, run, never, inside, Colon, ran, whole, placeOf, law-move, law-stop, law-good}
 use Rattle.statement.specs.Decimal.{digit}
 
 pub same-next : (t : List ℕ) (at : ℕ) (q q′ : State) → next q (getD t at 256) ≡ next q′ (getD t at 256) → run (drop at t) q ≡ run (drop at t) q′
@@ -67,9 +67,6 @@ first-none u d l c f e = rw (ne-eqb c 48 f, e)
 
 pub want-first : (d l c : ℕ) → (c ≡ 40 → ⊥) → next (want taxon d l) c ≡ first taxon d l c
 want-first d l c f = rw (ne-eqb c 40 f)
-
-pub want-open : (d l c : ℕ) → c ≡ 40 → next (want taxon d l) c ≡ opened d l
-want-open d l c e = rw e
 
 pub colon-yes : (q : State) (d l c : ℕ) → Colon q d l → c ≡ 58 → next q c ≡ move (want weight d l)
 colon-yes q d l c f e = f c ∙ rw e

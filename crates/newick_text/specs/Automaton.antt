@@ -85,10 +85,6 @@ abbrev pub placeOf : Took → ℕ
 placeOf (Past p) = p
 placeOf (Bad p) = p
 
--- reading from `at` on in state q is reading from the result on in state q′
-pub record Reads (t : List ℕ) (at : ℕ) (q q′ : State) (r : Took) : Type 0 where
-  pub runs : run (drop at t) q ≡ ran t q′ r
-
 -- the result is not before `at` and, where `at` is in the text, not past the text's end
 pub record Onward (t : List ℕ) (at : ℕ) (r : Took) : Type 0 where
   pub on : at ≤ placeOf r

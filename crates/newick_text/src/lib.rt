@@ -1,10 +1,10 @@
+// Newick text recognised, by recursion on children with the brackets that may still be opened falling: the place past a sentence, or the first bad byte.
+// Document 02, §2.
 ghost use mathlib.Core.Path.{_≡_};
 ghost use Prim.Native.Nat.{ℕ, suc, _+_, _-_, _≤_, _<_};
 ghost use lib.ListN.{length, drop, getD};
-ghost use lib.Dec.{eqb};
-ghost use mathlib.Core.Bool.{cond};
-ghost use Rattle.newick_text.specs.Automaton.{Use, State, run, ran, Onward, placeOf, Colon, start, whole, next, first, move, want, stop, over, some, close};
-ghost use Rattle.newick_text.specs.Automaton.{Reads as Auto·Reads, taxon as Auto·taxon, weight as Auto·weight};
+ghost use Rattle.newick_text.specs.Automaton.{Use, State, run, ran, Onward, placeOf, Colon, start, whole, next, first, want, over, some, close};
+ghost use Rattle.newick_text.specs.Automaton.{taxon as Auto·taxon, weight as Auto·weight};
 
 // What reading a piece of text comes to: the place past it, or the place of the first bad byte.
 pub enum Took {
@@ -26,7 +26,7 @@ pub fn peek(t: &[u8], at: usize) -> u64
 }
 
 // The place past the digits from `at` on.
-pub fn digits(t: &[u8], at: usize) -> usize
+fn digits(t: &[u8], at: usize) -> usize
     ensures { λ r. ⌜ ((u : Use) (d l : ℕ) → run (drop at (now (t .entry))) (some u d l) ≡ run (drop r (now (t .entry))) (over u d l)) ⌝ }
     ensures { λ r. ⌜ (at ≤ r) × (at ≤ length (now (t .entry)) → r ≤ length (now (t .entry))) ⌝ }
 {
@@ -44,7 +44,7 @@ pub fn digits(t: &[u8], at: usize) -> usize
 }
 
 // A number without leading zeros.
-pub fn number(t: &[u8], at: usize) -> Took
+fn number(t: &[u8], at: usize) -> Took
     ensures { λ r. ⌜ ((q : State) (u : Use) (d l : ℕ) → next q (getD (now (t .entry)) at 256) ≡ first u d l (getD (now (t .entry)) at 256) → run (drop at (now (t .entry))) q ≡ ran (now (t .entry)) (over u d l) r) ⌝ }
     ensures { λ r. ⌜ Onward (now (t .entry)) at r ⌝ }
 {
@@ -63,7 +63,7 @@ pub fn number(t: &[u8], at: usize) -> Took
 }
 
 // After what was read before, a colon and a weight.
-pub fn tail(t: &[u8], k: Took) -> Took
+fn tail(t: &[u8], k: Took) -> Took
     ensures { λ r. ⌜ ((q : State) (d l : ℕ) → Colon q d l → ran (now (t .entry)) q k ≡ ran (now (t .entry)) (over Auto·weight d l) r) ⌝ }
     ensures { λ r. ⌜ (placeOf k ≤ placeOf r) × (placeOf k ≤ length (now (t .entry)) → placeOf r ≤ length (now (t .entry))) ⌝ }
 {

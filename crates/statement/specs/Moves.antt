@@ -1,5 +1,4 @@
 -- WHAT MAY BE DONE TO A TREE without changing its list: the children of a vertex come in another order, or the root moves along an edge.
-use mathlib.Core.List.{List}
 use Rattle.statement.specs.Sentence.{Numeral, Children, leaf, group, leafThen, groupThen}
 
 -- a child, and children with one more in front
