@@ -16,7 +16,7 @@ use Rattle.statement.specs.Refusals.{outcomeOf, taxaOff, placesOf, strays, twin
 use Rattle.statement.specs.Calls.{unlessRefused, refusedReading, readingOf}
 use Rattle.statement.specs.Decimal.{digit, onFrom, span}
 use Rattle.newick_text.specs.Automaton.{start, run}
-use Rattle.statement.specs.Sentence.{Numeral, nought, lead, Children, leaf, group, leafThen, groupThen, numeralText, childrenText, Fits, Leaf, Edge, edgeAt, value, width, size, among, taxaOf, leavesAt, edgesAt, splitMade, keptEdges, pastLeaf, pastNode, Parsed, outside, sentence, Parses, rowOf}
+use Rattle.statement.specs.Sentence.{Numeral, nought, lead, Children, leaf, group, leafThen, groupThen, numeralText, childrenText, Fits, Leaf, Edge, edgeAt, value, width, size, among, taxaOf, leavesAt, edgesAt, splitMade, keptEdges, pastLeaf, pastGroup, Parsed, outside, sentence, Parses, rowOf}
 use Rattle.statement.specs.Grammar.{FirstBad}
 use Rattle.newick_text.proofs.Complete.{complete, not-open}
 use Rattle.newick_text.proofs.FirstBad.{one-place}
@@ -98,9 +98,9 @@ unfolding taxaOf leavesAt edgesAt
 alike-node2 f g w v r s a b c = record {
   size = size-node2 f w r ∙ (λ i. 1 + a .size i + 1 + 1 + b .width i + 1 + c .size i) ∙ sym (size-node2 g v s);
   taxa = ap₂ (λ (k u : List ℕ). k ++ u) (a .taxa) (c .taxa);
-  leaves = λ p. (λ i. a .leaves (p + 1) i ++ leavesAt (p + 1 + a .size i + 1 + 1 + b .width i + 1) r) ∙ ap (λ (u : List Leaf). leavesAt (p + 1) g ++ u) (c .leaves (pastNode p g v));
+  leaves = λ p. (λ i. a .leaves (p + 1) i ++ leavesAt (p + 1 + a .size i + 1 + 1 + b .width i + 1) r) ∙ ap (λ (u : List Leaf). leavesAt (p + 1) g ++ u) (c .leaves (pastGroup p g v));
   edges = λ p. (λ i. a .edges (p + 1) i ++ (record { place = p + 1 + a .size i + 1 + 1; below = a .taxa i; weight = b .value i } ∷ edgesAt (p + 1 + a .size i + 1 + 1 + b .width i + 1) r))
-      ∙ ap (λ (u : List Edge). edgesAt (p + 1) g ++ (edgeAt (p + 1 + size g + 1 + 1) (taxaOf g) v ∷ u)) (c .edges (pastNode p g v));
+      ∙ ap (λ (u : List Edge). edgesAt (p + 1) g ++ (edgeAt (p + 1 + size g + 1 + 1) (taxaOf g) v ∷ u)) (c .edges (pastGroup p g v));
 }
 
 ends : {X : Type 0} {a b : ℕ} {s t : List ℕ} → a ∷ s ≡ b ∷ t → (a ≡ b → ⊥) → X

@@ -6,7 +6,7 @@ use mathlib.Core.List.{List, [], _∷_, _++_, map, append-assoc, map-append}
 use lib.Dec.{eqb}
 use Rattle.statement.specs.Cluster.{groupOf}
 use Rattle.statement.specs.Rows.{Row, row}
-use Rattle.statement.specs.Sentence.{Numeral, Children, leaf, group, leafThen, groupThen, Edge, edgeAt, value, size, among, beyond, taxaOf, edgesAt, splitMade, keptEdges, pastLeaf, pastNode, rowOf}
+use Rattle.statement.specs.Sentence.{Numeral, Children, leaf, group, leafThen, groupThen, Edge, edgeAt, value, size, among, beyond, taxaOf, edgesAt, splitMade, keptEdges, pastLeaf, pastGroup, rowOf}
 use Rattle.newick_noted.proofs.Groups.{group-same}
 use Rattle.newick_noted.proofs.Taxa.{Good, good-disjoint, among-append}
 use Rattle.statement.specs.Moves.{Child, single, inner, only, with, join, Ordered, same, swap-last, swap, inside, first, later, then}
@@ -34,8 +34,8 @@ raw-rows n p (group f w) =
     map-append (rowOf n) (edgesAt (p + 1) f) (edgeAt (p + 1 + size f + 1 + 1) (taxaOf f) w ∷ []) ∙ ap (λ (s : List Row). s ++ (row (clusterFor n (taxaOf f)) (value w) ∷ [])) (raw-rows n (p + 1) f)
 raw-rows n p (leafThen x w r) = ap (λ (s : List Row). row (clusterFor n (value x ∷ [])) (value w) ∷ s) (raw-rows n (pastLeaf p x w) r)
 raw-rows n p (groupThen f w r) =
-    map-append (rowOf n) (edgesAt (p + 1) f) (edgeAt (p + 1 + size f + 1 + 1) (taxaOf f) w ∷ edgesAt (pastNode p f w) r)
-    ∙ ap₂ (λ (s t : List Row). s ++ (row (clusterFor n (taxaOf f)) (value w) ∷ t)) (raw-rows n (p + 1) f) (raw-rows n (pastNode p f w) r)
+    map-append (rowOf n) (edgesAt (p + 1) f) (edgeAt (p + 1 + size f + 1 + 1) (taxaOf f) w ∷ edgesAt (pastGroup p f w) r)
+    ∙ ap₂ (λ (s t : List Row). s ++ (row (clusterFor n (taxaOf f)) (value w) ∷ t)) (raw-rows n (p + 1) f) (raw-rows n (pastGroup p f w) r)
 
 -- without those of length 0
 unfoldable pub keptRows : List Row → List Row

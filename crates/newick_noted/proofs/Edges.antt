@@ -6,7 +6,7 @@ use mathlib.Core.Bool.{true, false}
 use mathlib.Core.List.{List, [], _∷_, _++_, map, map-append}
 use borrow.Author.Tests.{lt-ltb}
 use Rattle.statement.specs.Cluster.{groupOf}
-use Rattle.statement.specs.Sentence.{Numeral, Children, leaf, group, leafThen, groupThen, Leaf, Edge, value, width, size, among, beyond, taxaOf, leavesAt, edgesAt, splitMade, edgeAt, pastLeaf, pastNode}
+use Rattle.statement.specs.Sentence.{Numeral, Children, leaf, group, leafThen, groupThen, Leaf, Edge, value, width, size, among, beyond, taxaOf, leavesAt, edgesAt, splitMade, edgeAt, pastLeaf, pastGroup}
 use Rattle.numerals.specs.Numerals.{numberLimit}
 use Rattle.newick_edges.specs.declared.Met.{Met}
 use Rattle.newick_edges.specs.Marks.{fresh, meet, maskOf, side}
@@ -21,8 +21,8 @@ taxa-leaves p (leaf x w) = refl
 taxa-leaves p (group f w) = taxa-leaves (p + 1) f
 taxa-leaves p (leafThen x w r) = ap (λ (s : List ℕ). value x ∷ s) (taxa-leaves (pastLeaf p x w) r)
 taxa-leaves p (groupThen f w r) =
-    map-append (λ (l : Leaf). l .taxon) (leavesAt (p + 1) f) (leavesAt (pastNode p f w) r)
-    ∙ ap₂ (λ (s t : List ℕ). s ++ t) (taxa-leaves (p + 1) f) (taxa-leaves (pastNode p f w) r)
+    map-append (λ (l : Leaf). l .taxon) (leavesAt (p + 1) f) (leavesAt (pastGroup p f w) r)
+    ∙ ap₂ (λ (s t : List ℕ). s ++ t) (taxa-leaves (p + 1) f) (taxa-leaves (pastGroup p f w) r)
 
 -- an edge as the walk is to enter it
 abbrev pub entryOf : ℕ → Edge → Entry
@@ -67,5 +67,5 @@ module _ (n : ℕ) (some : 0 < n) (few : n ≤ 64) where
       = met-seen n few (leavesAt (p + 1) f) before m e ∙ ap (λ (s : List ℕ). metGroup n (turned s before)) (taxa-leaves (p + 1) f) in
       ap₂ (λ (s : List Entry) (t : List Entry). s ++ t) (entries-are f (p + 1) before m e (h .0))
       (ap₂ (λ (c : ℕ) (s : List Entry). entry (p + 1 + size f + 1 + 1) c (cut w) ∷ s) (since f (p + 1) before m e (h .0))
-      (entries-are r (pastNode p f w) (turned (taxaOf f) before) (meetAll n (leavesAt (p + 1) f) m) q (h .1)))
-      ∙ sym (map-append (entryOf n) (edgesAt (p + 1) f) (edgeAt (p + 1 + size f + 1 + 1) (taxaOf f) w ∷ edgesAt (pastNode p f w) r))
+      (entries-are r (pastGroup p f w) (turned (taxaOf f) before) (meetAll n (leavesAt (p + 1) f) m) q (h .1)))
+      ∙ sym (map-append (entryOf n) (edgesAt (p + 1) f) (edgeAt (p + 1 + size f + 1 + 1) (taxaOf f) w ∷ edgesAt (pastGroup p f w) r))

@@ -5,7 +5,7 @@ use mathlib.Core.Path.{_≡_, refl, sym, _∙_, ap, ap₂}
 use mathlib.Core.List.{List, [], _∷_, _++_}
 use lib.ListN.{length, getD, set, length-set}
 use lib.Seq.{getD-set-same, getD-set-other}
-use Rattle.statement.specs.Sentence.{Numeral, Children, leaf, group, leafThen, groupThen, Fits, Leaf, width, size, pastLeaf, pastNode, leavesAt}
+use Rattle.statement.specs.Sentence.{Numeral, Children, leaf, group, leafThen, groupThen, Fits, Leaf, width, size, pastLeaf, pastGroup, leavesAt}
 use Rattle.newick_edges.specs.declared.Met.{Met}
 use Rattle.newick_edges.specs.Marks.{meet, maskOf, side}
 use Rattle.newick_edges.specs.Table.{Table, enter}
@@ -46,7 +46,7 @@ entriesAt n p m (leafThen x w r) =
 entriesAt n p m (groupThen f w r) =
     entriesAt n (p + 1) m f
     ++ (entry (p + 1 + size f + 1 + 1) (side n (meetAll n (leavesAt (p + 1) f) m .seen - m .seen)) (cut w)
-    ∷ entriesAt n (pastNode p f w) (meetAll n (leavesAt (p + 1) f) m) r)
+    ∷ entriesAt n (pastGroup p f w) (meetAll n (leavesAt (p + 1) f) m) r)
 
 -- what the walk over f has made of u; what was opened before stays
 pub record After (n p : ℕ) (m : Met) (t : Table) (f : Children) (u v : Walk) : Type 0 where

@@ -7,7 +7,7 @@ use mathlib.Core.Bool.{Bool, true, false, cond, not, _||_, true≢false, false�
 use mathlib.Core.List.{List, [], _∷_, _++_}
 use Rattle.statement.specs.Cluster.{bit, In, Out, Split, Conflict}
 use Rattle.statement.proofs.Groups.{group-below, group-bit}
-use Rattle.statement.specs.Sentence.{Children, leaf, group, leafThen, groupThen, Edge, value, among, beyond, taxaOf, edgesAt, splitMade, edgeAt, pastLeaf, pastNode, size}
+use Rattle.statement.specs.Sentence.{Children, leaf, group, leafThen, groupThen, Edge, value, among, beyond, taxaOf, edgesAt, splitMade, edgeAt, pastLeaf, pastGroup, size}
 use Rattle.newick_noted.proofs.Taxa.{among-append, Good, good-append, good-disjoint}
 
 abbrev pub InE : Edge → List Edge → Type 0
@@ -47,8 +47,8 @@ within (leafThen x w r) p e (inl q) = sub-of e (value x ∷ taxaOf r) _ q (sub-l
 within (leafThen x w r) p e (inr h) = λ y k. sub-right (value x ∷ []) (taxaOf r) y (within r (pastLeaf p x w) e h y k)
 within (groupThen f w r) p e h =
     ⊎-elim (λ k y z. sub-left (taxaOf f) (taxaOf r) y (within f (p + 1) e k y z))
-    (λ k. ⊎-elim (λ q. sub-of e (taxaOf f ++ taxaOf r) _ q (sub-left (taxaOf f) (taxaOf r))) (λ z y u. sub-right (taxaOf f) (taxaOf r) y (within r (pastNode p f w) e z y u)) k)
-    (in-append e (edgesAt (p + 1) f) (edgeAt (p + 1 + size f + 1 + 1) (taxaOf f) w ∷ edgesAt (pastNode p f w) r) h)
+    (λ k. ⊎-elim (λ q. sub-of e (taxaOf f ++ taxaOf r) _ q (sub-left (taxaOf f) (taxaOf r))) (λ z y u. sub-right (taxaOf f) (taxaOf r) y (within r (pastGroup p f w) e z y u)) k)
+    (in-append e (edgesAt (p + 1) f) (edgeAt (p + 1 + size f + 1 + 1) (taxaOf f) w ∷ edgesAt (pastGroup p f w) r) h)
 
 -- one within the other, or nothing in common
 pub data Nest (xs ys : List ℕ) : Type 0 where
@@ -93,26 +93,26 @@ nested n (leafThen x w r) p before g a b (inr h) (inl s) =
 nested n (leafThen x w r) p before g a b (inr h) (inr k) = nested n r (pastLeaf p x w) (value x ∷ before) (g .2) a b h k
 nested n (groupThen f w r) p before g a b h k = go (part a h) (part b k)
     (λ a b. nested n f (p + 1) before (good-append n before (taxaOf f) (taxaOf r) g .0) a b)
-    (λ a b. nested n r (pastNode p f w) _ (good-append n before (taxaOf f) (taxaOf r) g .1) a b)
+    (λ a b. nested n r (pastGroup p f w) _ (good-append n before (taxaOf f) (taxaOf r) g .1) a b)
   where
-    part : (e : Edge) → InE e (edgesAt (p + 1) f ++ (edgeAt (p + 1 + size f + 1 + 1) (taxaOf f) w ∷ edgesAt (pastNode p f w) r))
-        → (InE e (edgesAt (p + 1) f) ⊎ (e ≡ edgeAt (p + 1 + size f + 1 + 1) (taxaOf f) w)) ⊎ InE e (edgesAt (pastNode p f w) r)
+    part : (e : Edge) → InE e (edgesAt (p + 1) f ++ (edgeAt (p + 1 + size f + 1 + 1) (taxaOf f) w ∷ edgesAt (pastGroup p f w) r))
+        → (InE e (edgesAt (p + 1) f) ⊎ (e ≡ edgeAt (p + 1 + size f + 1 + 1) (taxaOf f) w)) ⊎ InE e (edgesAt (pastGroup p f w) r)
     part e h =
         ⊎-elim (λ k. inl (inl k)) (λ k. ⊎-elim (λ q. inl (inr q)) (λ z. inr z) k)
-        (in-append e (edgesAt (p + 1) f) (edgeAt (p + 1 + size f + 1 + 1) (taxaOf f) w ∷ edgesAt (pastNode p f w) r) h)
+        (in-append e (edgesAt (p + 1) f) (edgeAt (p + 1 + size f + 1 + 1) (taxaOf f) w ∷ edgesAt (pastGroup p f w) r) h)
 
     own : (e : Edge) → InE e (edgesAt (p + 1) f) ⊎ (e ≡ edgeAt (p + 1 + size f + 1 + 1) (taxaOf f) w) → Sub (e .below) (taxaOf f)
     own e (inl k) = within f (p + 1) e k
     own e (inr q) = sub-of e (taxaOf f) _ q (λ y z. z)
 
-    go : (InE a (edgesAt (p + 1) f) ⊎ (a ≡ edgeAt (p + 1 + size f + 1 + 1) (taxaOf f) w)) ⊎ InE a (edgesAt (pastNode p f w) r)
-        → (InE b (edgesAt (p + 1) f) ⊎ (b ≡ edgeAt (p + 1 + size f + 1 + 1) (taxaOf f) w)) ⊎ InE b (edgesAt (pastNode p f w) r)
+    go : (InE a (edgesAt (p + 1) f) ⊎ (a ≡ edgeAt (p + 1 + size f + 1 + 1) (taxaOf f) w)) ⊎ InE a (edgesAt (pastGroup p f w) r)
+        → (InE b (edgesAt (p + 1) f) ⊎ (b ≡ edgeAt (p + 1 + size f + 1 + 1) (taxaOf f) w)) ⊎ InE b (edgesAt (pastGroup p f w) r)
         → ((a b : Edge) → InE a (edgesAt (p + 1) f) → InE b (edgesAt (p + 1) f) → Nest (a .below) (b .below))
-        → ((a b : Edge) → InE a (edgesAt (pastNode p f w) r) → InE b (edgesAt (pastNode p f w) r) → Nest (a .below) (b .below))
+        → ((a b : Edge) → InE a (edgesAt (pastGroup p f w) r) → InE b (edgesAt (pastGroup p f w) r) → Nest (a .below) (b .below))
         → Nest (a .below) (b .below)
     go (inl x) (inl y) i j = under f (p + 1) a b (edgeAt (p + 1 + size f + 1 + 1) (taxaOf f) w) refl i x y
-    go (inl x) (inr y) i j = split-apart n before (taxaOf f) (taxaOf r) g a b (own a x) (within r (pastNode p f w) b y)
-    go (inr x) (inl y) i j = turn (b .below) (a .below) (split-apart n before (taxaOf f) (taxaOf r) g b a (own b y) (within r (pastNode p f w) a x))
+    go (inl x) (inr y) i j = split-apart n before (taxaOf f) (taxaOf r) g a b (own a x) (within r (pastGroup p f w) b y)
+    go (inr x) (inl y) i j = turn (b .below) (a .below) (split-apart n before (taxaOf f) (taxaOf r) g b a (own b y) (within r (pastGroup p f w) a x))
     go (inr x) (inr y) i j = j a b x y
 
 -- NO CONFLICT

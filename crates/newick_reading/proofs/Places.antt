@@ -12,7 +12,7 @@ use Rattle.statement.specs.Refusals.{Check, outcomeOf, placesOf, strays, twins,
 use Rattle.statement.proofs.Lowest.{lowest-at, lowest-none, none-at}
 use Rattle.statement.proofs.Listed.{asc-le, asc-lower, asc-append}
 use Rattle.statement.proofs.Refused.{refused-at, passed-at}
-use Rattle.statement.specs.Sentence.{Numeral, nought, lead, Children, leaf, group, leafThen, groupThen, Leaf, Edge, among, width, size, taxaOf, leavesAt, edgesAt, splitMade, keptEdges, edgeAt, pastLeaf, pastNode, clustersOf}
+use Rattle.statement.specs.Sentence.{Numeral, nought, lead, Children, leaf, group, leafThen, groupThen, Leaf, Edge, among, width, size, taxaOf, leavesAt, edgesAt, splitMade, keptEdges, edgeAt, pastLeaf, pastGroup, clustersOf}
 use Rattle.newick_noted.proofs.Taxa as taxa
 use Rattle.newick_meaning.proofs.Sizes.{size-leaf, size-node, size-leaf2, size-node2}
 use Rattle.newick_noted.proofs.Edges.{entryOf}
@@ -43,10 +43,10 @@ leaves-up p (group f w) = asc-between (p + 1) p (p + 1 + size f) (p + size (grou
 leaves-up p (leafThen x w r) =
     (omega arith, asc-between (pastLeaf p x w) (suc p) (pastLeaf p x w + size r) (p + size (leafThen x w r)) (leafPlaces (leavesAt (pastLeaf p x w) r)) (omega arith) (omega (arith, size-leaf2 x w r)) (leaves-up (pastLeaf p x w) r))
 leaves-up p (groupThen f w r) =
-    subst (Ascending p (p + size (groupThen f w r))) (sym (map-append (λ (l : Leaf). l .place) (leavesAt (p + 1) f) (leavesAt (pastNode p f w) r)))
-    (asc-append p (p + 1 + size f) (p + size (groupThen f w r)) (leafPlaces (leavesAt (p + 1) f)) (leafPlaces (leavesAt (pastNode p f w) r))
+    subst (Ascending p (p + size (groupThen f w r))) (sym (map-append (λ (l : Leaf). l .place) (leavesAt (p + 1) f) (leavesAt (pastGroup p f w) r)))
+    (asc-append p (p + 1 + size f) (p + size (groupThen f w r)) (leafPlaces (leavesAt (p + 1) f)) (leafPlaces (leavesAt (pastGroup p f w) r))
     (asc-between (p + 1) p (p + 1 + size f) (p + 1 + size f) (leafPlaces (leavesAt (p + 1) f)) (omega arith) (omega arith) (leaves-up (p + 1) f))
-    (asc-between (pastNode p f w) (p + 1 + size f) (pastNode p f w + size r) (p + size (groupThen f w r)) (leafPlaces (leavesAt (pastNode p f w) r)) (omega arith) (omega (arith, size-node2 f w r)) (leaves-up (pastNode p f w) r)))
+    (asc-between (pastGroup p f w) (p + 1 + size f) (pastGroup p f w + size r) (p + size (groupThen f w r)) (leafPlaces (leavesAt (pastGroup p f w) r)) (omega arith) (omega (arith, size-node2 f w r)) (leaves-up (pastGroup p f w) r)))
 
 -- EDGES
 pub edges-up : (p : ℕ) (f : Children) → Ascending p (p + size f) (edgePlaces (edgesAt p f))
@@ -60,10 +60,10 @@ edges-up p (group f w) =
 edges-up p (leafThen x w r) =
     (omega arith, asc-between (pastLeaf p x w) (suc (p + width x + 1)) (pastLeaf p x w + size r) (p + size (leafThen x w r)) (edgePlaces (edgesAt (pastLeaf p x w) r)) (omega arith) (omega (arith, size-leaf2 x w r)) (edges-up (pastLeaf p x w) r))
 edges-up p (groupThen f w r) =
-    subst (Ascending p (p + size (groupThen f w r))) (sym (map-append (λ (e : Edge). e .place) (edgesAt (p + 1) f) (edgeAt (p + 1 + size f + 1 + 1) (taxaOf f) w ∷ edgesAt (pastNode p f w) r)))
-    (asc-append p (p + 1 + size f) (p + size (groupThen f w r)) (edgePlaces (edgesAt (p + 1) f)) ((p + 1 + size f + 1 + 1) ∷ edgePlaces (edgesAt (pastNode p f w) r))
+    subst (Ascending p (p + size (groupThen f w r))) (sym (map-append (λ (e : Edge). e .place) (edgesAt (p + 1) f) (edgeAt (p + 1 + size f + 1 + 1) (taxaOf f) w ∷ edgesAt (pastGroup p f w) r)))
+    (asc-append p (p + 1 + size f) (p + size (groupThen f w r)) (edgePlaces (edgesAt (p + 1) f)) ((p + 1 + size f + 1 + 1) ∷ edgePlaces (edgesAt (pastGroup p f w) r))
     (asc-between (p + 1) p (p + 1 + size f) (p + 1 + size f) (edgePlaces (edgesAt (p + 1) f)) (omega arith) (omega arith) (edges-up (p + 1) f))
-    (omega arith, asc-between (pastNode p f w) (suc (p + 1 + size f + 1 + 1)) (pastNode p f w + size r) (p + size (groupThen f w r)) (edgePlaces (edgesAt (pastNode p f w) r)) (omega arith) (omega (arith, size-node2 f w r)) (edges-up (pastNode p f w) r)))
+    (omega arith, asc-between (pastGroup p f w) (suc (p + 1 + size f + 1 + 1)) (pastGroup p f w + size r) (p + size (groupThen f w r)) (edgePlaces (edgesAt (pastGroup p f w) r)) (omega arith) (omega (arith, size-node2 f w r)) (edges-up (pastGroup p f w) r)))
 
 -- SOME of them
 skip : (lo hi x : ℕ) (xs ys : List ℕ) (b : Bool) → Ascending lo hi (x ∷ xs) → Ascending (suc x) hi ys → Ascending lo hi (cond b (x ∷ ys) ys)

@@ -106,7 +106,8 @@ pub fn write_newick(n: usize, s: Splits, out: &mut [u8]) -> Outcome
     let arrays = arrays_of(n, s);
     let links = arrays.links;
     let homes = arrays.homes;
-    if out.len() != text_length(n, s, &links, &homes) {
+    let len = text_length(n, s, &links, &homes);
+    if out.len() != len {
         return Outcome::Refused(7, 0);
     }
     put_text(n, s, &links, &homes, out);

@@ -102,21 +102,21 @@ taxaOf (groupThen f w r) = taxaOf f ++ taxaOf r
 abbrev pub pastLeaf : ℕ → Numeral → Numeral → ℕ
 pastLeaf p x w = p + width x + 1 + width w + 1
 
-abbrev pub pastNode : ℕ → Children → Numeral → ℕ
-pastNode p f w = p + 1 + size f + 1 + 1 + width w + 1
+abbrev pub pastGroup : ℕ → Children → Numeral → ℕ
+pastGroup p f w = p + 1 + size f + 1 + 1 + width w + 1
 
 -- the leaves, and the edges, of a list of children whose text starts at p: in the order of their places
 unfoldable pub leavesAt : ℕ → Children → List Leaf
 leavesAt p (leaf x w) = leafAt p x ∷ []
 leavesAt p (group f w) = leavesAt (p + 1) f
 leavesAt p (leafThen x w r) = leafAt p x ∷ leavesAt (pastLeaf p x w) r
-leavesAt p (groupThen f w r) = leavesAt (p + 1) f ++ leavesAt (pastNode p f w) r
+leavesAt p (groupThen f w r) = leavesAt (p + 1) f ++ leavesAt (pastGroup p f w) r
 
 unfoldable pub edgesAt : ℕ → Children → List Edge
 edgesAt p (leaf x w) = edgeAt (p + width x + 1) (value x ∷ []) w ∷ []
 edgesAt p (group f w) = edgesAt (p + 1) f ++ (edgeAt (p + 1 + size f + 1 + 1) (taxaOf f) w ∷ [])
 edgesAt p (leafThen x w r) = edgeAt (p + width x + 1) (value x ∷ []) w ∷ edgesAt (pastLeaf p x w) r
-edgesAt p (groupThen f w r) = edgesAt (p + 1) f ++ (edgeAt (p + 1 + size f + 1 + 1) (taxaOf f) w ∷ edgesAt (pastNode p f w) r)
+edgesAt p (groupThen f w r) = edgesAt (p + 1) f ++ (edgeAt (p + 1 + size f + 1 + 1) (taxaOf f) w ∷ edgesAt (pastGroup p f w) r)
 
 -- THE SPLIT THAT AN EDGE MAKES, by the side without taxon 0: the taxa below the edge, or those not below it where taxon 0 is. This is the re-rooting at
 -- taxon 0's home: what lies beyond an edge, seen from there

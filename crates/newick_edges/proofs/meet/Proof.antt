@@ -13,7 +13,7 @@ fresh-requires : tie.Need-fresh-requires
 fresh-requires c κs = search needs
 
 single-requires : tie.Need-single-requires
-single-requires c κs = let a = c .before .before .args in omega (arith, fresh-parts (a .n) (a .m .seen) (a .x) (sym (c .before .fresh .ensures) ∙ c .if1 .taken) .0)
+single-requires c κs = let a = c .before .before .args in omega (arith, fresh-parts (a .n) _ (a .x) (sym (c .before .fresh .ensures) ∙ c .if1 .taken) .0)
 
 add-t7 : tie.Need-add-t7
 add-t7 c =
