@@ -1,3 +1,4 @@
+-- `newick_digits::put_number` meets its contract: the digits before the last one, by itself for n / 10, then the last. Assumes nothing.
 use Prim.Native.Nat.{ℕ, _+_, _/_, _%_, _≤_, _<_}
 use mathlib.Core.Path.{ap, _∙_}
 use mathlib.Core.List.{List}

@@ -1,3 +1,4 @@
+-- `newick_digits::put` meets its contract: a byte stored where there is room, and nothing where there is none. Assumes nothing.
 use mathlib.Core.Path.{sym}
 use lib.Seq.{set-out}
 use borrow.Author.Needs.{needs}

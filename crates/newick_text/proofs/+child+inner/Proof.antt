@@ -1,3 +1,4 @@
+-- `newick_text::child` and `inner` meet their contracts, each by the other with fewer brackets left or further on in the text. Assumes nothing.
 use Prim.Native.Nat.{ℕ, suc, _+_, _-_, _*_, _≤_, _<_}
 use borrow.Author.Needs.{needs}
 use mathlib.Core.Path.{_≡_, refl, ap, _∙_}

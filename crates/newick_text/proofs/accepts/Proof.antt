@@ -1,3 +1,4 @@
+-- `newick_text::accepts` meets its contract: the root's bracket, its children, the semicolon. Assumes nothing.
 use borrow.Author.Needs.{needs}
 use mathlib.Core.Path.{_≡_, _∙_}
 use Prim.Native.Nat.{_≤_, _<_}

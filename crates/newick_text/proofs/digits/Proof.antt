@@ -1,3 +1,4 @@
+-- `newick_text::digits` meets its contract: each digit passed leaves the automaton where it was. Assumes nothing.
 use borrow.Author.Needs.{needs}
 use mathlib.Core.Path.{_≡_, refl, _∙_}
 use Prim.Native.Nat.{ℕ, _≤_, _<_, _-_}

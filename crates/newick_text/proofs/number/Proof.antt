@@ -1,3 +1,4 @@
+-- `newick_text::number` meets its contract, by its first byte. Assumes nothing.
 use borrow.Author.Needs.{needs}
 use mathlib.Core.Path.{_∙_}
 use Prim.Native.Nat.{_≤_, _<_, _-_}

@@ -1,3 +1,4 @@
+-- `newick_text::peek` meets its contract: 256 where there is no byte. Assumes nothing.
 use borrow.Author.Needs.{needs}
 use mathlib.Core.Path.{sym, _∙_}
 use lib.ListN.{List·getD-eq-default}

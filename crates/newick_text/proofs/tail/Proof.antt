@@ -1,3 +1,4 @@
+-- `newick_text::tail` meets its contract: a colon, then a number. Assumes nothing.
 use borrow.Author.Needs.{needs}
 use mathlib.Core.Path.{_≡_, refl, _∙_}
 use Prim.Native.Nat.{ℕ, _≤_, _<_, _-_}
