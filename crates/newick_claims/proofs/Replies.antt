@@ -2,7 +2,7 @@
 -- Assumes nothing.
 use Prim.Native.Nat.{ℕ, _≤_}
 use native.Mathlib.Omega.{arith}
-use mathlib.Core.Path.{_≡_, refl, sym, subst}
+use mathlib.Core.Path.{_≡_, refl, sym, _∙_, subst}
 use mathlib.Core.Logic.{inl, inr, _↔_}
 use mathlib.Core.Bool.{Bool, true, false, _||_}
 use mathlib.Core.List.{List, _++_}
@@ -17,7 +17,7 @@ use Rattle.statement.specs.Sentence.{Children, Parsed, outside, sentence, Parse
 use Rattle.statement.specs.Rows.{rowsOf, listOf}
 use Rattle.statement.specs.NewickText.{newickOf, newickLength}
 use Rattle.statement.specs.Refusals.{outcomeOf, Fails, Given, grammarOff, outputChecks, listChecks, textChecks, newickChecks}
-use Rattle.statement.specs.Calls.{refusedReading, readingOf, measureNewick, newickMeasured, writeNewick, newickWritten}
+use Rattle.statement.specs.Calls.{refusedReading, readingOf, NewickReply, measureNewick, newickMeasured, writeNewick, newickWritten}
 use Rattle.statement.proofs.Accepted.{taxa-passed}
 use Rattle.statement.proofs.Refused.{refused-exactly}
 use Rattle.newick_text.proofs.Productions.{by-productions}
@@ -26,6 +26,15 @@ use Rattle.newick_meaning.proofs.Parses.{text-parses}
 use Rattle.newick_meaning.proofs.Unique.{grammar-settles}
 use Rattle.claims.specs.Demands.{ExactlyWhen, RefusedIs, Unaltered}
 use Rattle.claims.proofs.Demand1.{done-not, exactly, listed, unaltered, readingOutcome}
+
+-- THE READER'S REPLY is the one that the grammar settles, and there is no other
+pub read-replies : (n : ℕ) (text : List ℕ) → NewickReply n text (readNewick n text)
+read-replies n text =
+    let is = text-parses text in record { what = parsed text; parses = is; reply = grammar-settles n text (parsed text) is }
+
+pub one-newick-reply : (n : ℕ) (text : List ℕ) (r s : Reading) → NewickReply n text r → NewickReply n text s → r ≡ s
+one-newick-reply n text r s a b =
+    a .reply ∙ sym (grammar-settles n text (a .what) (a .parses)) ∙ grammar-settles n text (b .what) (b .parses) ∙ sym (b .reply)
 
 -- THE READER, of a text by what it is to the grammar
 pub read-newick : (n : ℕ) (text : List ℕ) (p : Parsed) → Parses text p

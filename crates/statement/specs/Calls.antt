@@ -1,5 +1,6 @@
 -- THE REPLY OF EACH CALL, on all inputs. Document 01: "Every callable entry states its reply and the later contents of lent slices on all inputs".
 use Prim.Native.Nat.{ℕ, _+_, _*_, _-_}
+use mathlib.Core.Path.{_≡_}
 use mathlib.Core.Bool.{cond}
 use mathlib.Core.List.{List, [], _∷_, _++_}
 use lib.Dec.{ltb, eqb}
@@ -17,7 +18,7 @@ use Rattle.statement.specs.Rows.{rowsOf, listOf}
 use Rattle.statement.specs.Growing.{byMatrix, byTable, grown, wholeRun}
 use Rattle.statement.specs.Tree.{treeOf, rowsOfTree, pathSums}
 use Rattle.statement.specs.Bytes.{fromBytes, treeBody, treeIn, treeLength}
-use Rattle.statement.specs.Sentence.{Parsed, rowsRead}
+use Rattle.statement.specs.Sentence.{Parsed, Parses, rowsRead}
 use Rattle.statement.specs.NewickText.{newickOf, newickLength}
 use Rattle.statement.specs.Refusals.{outcomeOf, listOff, matrixChecks, tableChecks, treeChecks, outputChecks, listChecks, newickChecks}
 use Rattle.statement.specs.Record.{recordChecks, recordLength, lengthIn, recordOf, writingChecks, matrixKind, tableKind, kindIn, taxaIn, takenChecks, bodyIn}
@@ -102,6 +103,12 @@ abbrev pub readingOf : ℕ → Parsed → Reading
 readingOf n p =
     let o = outcomeOf (newickChecks n p) in
     unlessRefused o (refusedReading o) (record { outcome = Done; list = listOf n (rowsRead n p) })
+
+-- THE REPLY TO A TEXT is the reading of what the text is to a reader. Every text is one thing to the grammar, so there is one reply
+pub record NewickReply (n : ℕ) (text : List ℕ) (r : Reading) : Type 0 where
+  pub what : Parsed
+  pub parses : Parses text what
+  pub reply : r ≡ readingOf n what
 
 -- A RECORD found: its number and place (its body is bodyIn), and a record written into a lent slice
 unfoldable pub findRecord : List ℕ → Outcome

@@ -38,7 +38,6 @@ inner-at t = and 1 inner-kinds.ps (is 1 inner-kinds.ps μ-inner t) inner.Pre
 abbrev inner-below : ℕ → In 1 inner-kinds.ps
 inner-below t = and 1 inner-kinds.ps (falls 1 inner-kinds.ps _<_ μ-inner t) inner.Pre
 
--- src/lib.rt:89:9
 child-peek-requires : (t : ℕ) → child-lts.Need-peek-requires (
   peek-reads.Asked,
   peek-reads.Learnt,
@@ -51,7 +50,6 @@ child-peek-requires : (t : ℕ) → child-lts.Need-peek-requires (
 ) (child-at t) child.Post
 child-peek-requires t c κs = tt
 
--- src/lib.rt:91:13
 child-number-requires : (t : ℕ) → child-lts.Need-number-requires (
   peek-reads.Asked,
   peek-reads.Learnt,
@@ -64,7 +62,6 @@ child-number-requires : (t : ℕ) → child-lts.Need-number-requires (
 ) (child-at t) child.Post
 child-number-requires t c κs = tt
 
--- src/lib.rt:92:9
 child-tail-requires : (t : ℕ) → child-lts.Need-tail-requires (
   peek-reads.Asked,
   peek-reads.Learnt,
@@ -77,7 +74,6 @@ child-tail-requires : (t : ℕ) → child-lts.Need-tail-requires (
 ) (child-at t) child.Post
 child-tail-requires t c κs = tt
 
--- src/lib.rt:92:9
 child-returns : (t : ℕ) → child-lts.Need-returns (
   peek-reads.Asked,
   peek-reads.Learnt,
@@ -94,7 +90,6 @@ child-returns t c =
       record { on = omega (arith, n .ensures .1 .on, k .ensures .1 .0); within = λ h. k .ensures .1 .1 (n .ensures .1 .within h) },
     )
 
--- src/lib.rt:95:9
 child-returns-2 : (t : ℕ) → child-lts.Need-returns-2 (
   peek-reads.Asked,
   peek-reads.Learnt,
@@ -109,7 +104,6 @@ child-returns-2 t c =
     let a = c .before .before .before .before .args in let p = c .before .before .peek in
     ((λ d. fails (a .t .now) (a .at) (want taxon (suc d) (a .left)) (p .result) (p .ensures) (want-full (suc d) (a .left) (p .result) (c .before .if1 .left) (c .if2 .taken))), record { on = omega arith; within = λ h. h })
 
--- src/lib.rt:97:22
 child-add-inner : (t : ℕ) → child-lts.Need-add-inner (
   peek-reads.Asked,
   peek-reads.Learnt,
@@ -122,7 +116,6 @@ child-add-inner : (t : ℕ) → child-lts.Need-add-inner (
 ) (child-at t) child.Post
 child-add-inner t c = omega (arith, inside′ (c .before .before .before .before .args .t .now) (c .before .before .before .before .args .at) (c .before .before .peek .result) (c .before .before .peek .ensures) (omega arith))
 
--- src/lib.rt:97:30
 child-sub-inner : (t : ℕ) → child-lts.Need-sub-inner (
   peek-reads.Asked,
   peek-reads.Learnt,
@@ -135,7 +128,6 @@ child-sub-inner : (t : ℕ) → child-lts.Need-sub-inner (
 ) (child-at t) child.Post
 child-sub-inner t c = omega arith
 
--- src/lib.rt:97:9
 child-inner-requires : (t : ℕ) → child-lts.Need-inner-requires (
   peek-reads.Asked,
   peek-reads.Learnt,
@@ -148,7 +140,6 @@ child-inner-requires : (t : ℕ) → child-lts.Need-inner-requires (
 ) (child-at t) child.Post
 child-inner-requires t c κs = (omega arith, tt)
 
--- src/lib.rt:98:5
 child-tail-requires-2 : (t : ℕ) → child-lts.Need-tail-requires-2 (
   peek-reads.Asked,
   peek-reads.Learnt,
@@ -161,7 +152,6 @@ child-tail-requires-2 : (t : ℕ) → child-lts.Need-tail-requires-2 (
 ) (child-at t) child.Post
 child-tail-requires-2 t c κs = tt
 
--- src/lib.rt:85:1
 child-returns-3 : (t : ℕ) → child-lts.Need-returns-3 (
   peek-reads.Asked,
   peek-reads.Learnt,
@@ -188,7 +178,6 @@ inner-Inv-loop t at left i₀ i = ((d : ℕ) → run (drop at t) (want taxon (su
 abbrev inner-μ-loop : inner-lts.MeasureT-loop
 inner-μ-loop t at left i₀ i = length t - i
 
--- src/lib.rt:107:5
 inner-loop-holds : (t : ℕ) → inner-lts.Need-loop-holds (
   child-below t,
   child.Post,
@@ -197,7 +186,6 @@ inner-loop-holds : (t : ℕ) → inner-lts.Need-loop-holds (
 ) (inner-at t) inner.Post inner-Inv-loop inner-μ-loop
 inner-loop-holds t c = ((λ d. refl), (omega arith, λ h. h))
 
--- src/lib.rt:108:13
 inner-child-requires : (t : ℕ) → inner-lts.Need-child-requires (
   child-below t,
   child.Post,
@@ -206,7 +194,6 @@ inner-child-requires : (t : ℕ) → inner-lts.Need-child-requires (
 ) (inner-at t) inner.Post inner-Inv-loop inner-μ-loop
 inner-child-requires t c κs = (omega arith, tt)
 
--- src/lib.rt:109:24
 inner-enum-known-k : (t : ℕ) → inner-lts.Need-enum-known-k (
   child-below t,
   child.Post,
@@ -215,7 +202,6 @@ inner-enum-known-k : (t : ℕ) → inner-lts.Need-enum-known-k (
 ) (inner-at t) inner.Post inner-Inv-loop inner-μ-loop
 inner-enum-known-k t c = search needs
 
--- src/lib.rt:110:13
 inner-enum-told : (t : ℕ) → inner-lts.Need-enum-told (
   child-below t,
   child.Post,
@@ -224,7 +210,6 @@ inner-enum-told : (t : ℕ) → inner-lts.Need-enum-told (
 ) (inner-at t) inner.Post inner-Inv-loop inner-μ-loop
 inner-enum-told t c = search needs
 
--- src/lib.rt:110:13
 inner-returns : (t : ℕ) → inner-lts.Need-returns (
   child-below t,
   child.Post,
@@ -237,7 +222,6 @@ inner-returns t c =
       record { on = omega (arith, k .ensures .1 .on); within = λ x. k .ensures .1 .within (l .inv .1 .1 x) },
     )
 
--- src/lib.rt:112:13
 inner-peek-requires : (t : ℕ) → inner-lts.Need-peek-requires (
   child-below t,
   child.Post,
@@ -246,7 +230,6 @@ inner-peek-requires : (t : ℕ) → inner-lts.Need-peek-requires (
 ) (inner-at t) inner.Post inner-Inv-loop inner-μ-loop
 inner-peek-requires t c κs = tt
 
--- src/lib.rt:114:31
 inner-add-t9 : (t : ℕ) → inner-lts.Need-add-t9 (
   child-below t,
   child.Post,
@@ -261,7 +244,6 @@ inner-add-t9 t c =
     let o : l .i ≤ placeOf (k .result) = k .ensures .1 .on in
     omega arith
 
--- src/lib.rt:114:13
 inner-returns-2 : (t : ℕ) → inner-lts.Need-returns-2 (
   child-below t,
   child.Post,
@@ -279,7 +261,6 @@ inner-returns-2 t c =
       record { on = omega arith; within = λ x. omega arith },
     )
 
--- src/lib.rt:117:13
 inner-returns-3 : (t : ℕ) → inner-lts.Need-returns-3 (
   child-below t,
   child.Post,
@@ -296,7 +277,6 @@ inner-returns-3 t c =
       record { on = omega arith; within = λ x. let w : placeOf (k .result) ≤ length (a .t .now) = k .ensures .1 .within (l .inv .1 .1 x) in omega arith },
     )
 
--- src/lib.rt:119:13
 inner-add-i : (t : ℕ) → inner-lts.Need-add-i (
   child-below t,
   child.Post,
@@ -311,7 +291,6 @@ inner-add-i t c =
     let o : l .i ≤ placeOf (k .result) = k .ensures .1 .on in
     omega arith
 
--- src/lib.rt:107:5
 inner-loop-less : (t : ℕ) → inner-lts.Need-loop-less (
   child-below t,
   child.Post,
@@ -326,7 +305,6 @@ inner-loop-less t c =
     let o : l .i ≤ placeOf (k .result) = k .ensures .1 .on in
     omega arith
 
--- src/lib.rt:107:5
 inner-loop-again : (t : ℕ) → inner-lts.Need-loop-again (
   child-below t,
   child.Post,

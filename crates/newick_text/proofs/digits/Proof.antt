@@ -8,9 +8,6 @@ use Rattle.newick_text.specs.Automaton.{Use, run, some, over, inside}
 use Rattle.newick_text.proofs.Laws.{goes, joins, digit-yes, digit-low, digit-high, some-over, some-some}
 use Rattle.newick_text.proofs.digits.Statement.{statement}
 use Rattle.newick_text.proofs.digits.Tie as tie
-use Rattle.newick_text.proofs.digits.Reads as reads
-use Rattle.newick_text.proofs.digits.Lts as lts
-use Rattle.newick_text.proofs.peek.Reads as peek-reads
 
 abbrev Inv-loop : tie.InvT-loop
 Inv-loop t at i₀ i = ((u : Use) (d l : ℕ) → run (drop at t) (some u d l) ≡ run (drop i t) (some u d l)) × ((at ≤ i) × (at ≤ length t → i ≤ length t))

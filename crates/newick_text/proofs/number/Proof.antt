@@ -7,10 +7,6 @@ use lib.ListN.{length}
 use Rattle.newick_text.proofs.Laws.{digit-low, digit-high, num-zero, num-none, num-some, inside′}
 use Rattle.newick_text.proofs.number.Statement.{statement}
 use Rattle.newick_text.proofs.number.Tie as tie
-use Rattle.newick_text.proofs.number.Reads as reads
-use Rattle.newick_text.proofs.number.Lts as lts
-use Rattle.newick_text.proofs.digits.Reads as digits-reads
-use Rattle.newick_text.proofs.peek.Reads as peek-reads
 
 peek-requires : tie.Need-peek-requires
 peek-requires c κs = search needs
