@@ -1,5 +1,5 @@
-/* How fast the library is: each call on each input by the library and by plain.c, the straightforward algorithm in plain C; a
- * whole run also by fast.c, the library's own algorithm in plain C.
+/* How fast the library is: each call on each input by the library and by plain.c (newick.c for Newick texts), the straightforward
+ * algorithm in plain C; a whole run also by fast.c, the library's own algorithm in plain C.
  * All are timed in turn in this one process, and their answers are compared after every round: a difference ends the program
  * with exit status 1. A time is processor time, the best of seven rounds, each of at least 0.05 seconds for each side. The
  * last lines give the worst ratios of the library's time to plain C's and to fast C's.
@@ -23,6 +23,8 @@ static struct {
     uint8_t table[TABLE_ROOM];
     splitbox_list list;
     uint8_t tree[TREE_ROOM];
+    uint8_t text[TEXT_ROOM];
+    size_t text_length;
     uint8_t record[RECORD_ROOM];
     size_t record_length;
 } in;
@@ -34,6 +36,8 @@ struct answer {
     splitbox_list list;
     uint8_t tree[TREE_ROOM];
     uint64_t sums[MATRIX_ROOM];
+    size_t text_length;
+    uint8_t text[TEXT_ROOM];
 };
 
 typedef void call(struct answer *out);
@@ -80,6 +84,18 @@ static void library_sum_paths(struct answer *out)
 {
     out->reply = splitbox_sum_paths(in.n, SPLITBOX_GIVEN(&in.list), out->sums, SPLITBOX_MATRIX(in.n));
 }
+static void library_newick_length(struct answer *out)
+{
+    out->reply = splitbox_newick_length(in.n, SPLITBOX_GIVEN(&in.list), &out->text_length);
+}
+static void library_write_newick(struct answer *out)
+{
+    out->reply = splitbox_write_newick(in.n, SPLITBOX_GIVEN(&in.list), out->text, in.text_length);
+}
+static void library_read_newick(struct answer *out)
+{
+    out->reply = splitbox_read_newick(in.n, in.text, in.text_length, SPLITBOX_LENT(&out->list));
+}
 static void library_find_record(struct answer *out) { out->reply = splitbox_find_record(in.record, in.record_length); }
 static void library_run_record(struct answer *out)
 {
@@ -115,6 +131,15 @@ static void c_read_tree(struct answer *out)
 static void c_sum_paths(struct answer *out)
 {
     out->reply = plain_sum_paths(in.n, &in.list, out->sums, SPLITBOX_MATRIX(in.n));
+}
+static void c_newick_length(struct answer *out) { out->reply = plain_newick_length(in.n, &in.list, &out->text_length); }
+static void c_write_newick(struct answer *out)
+{
+    out->reply = plain_write_newick(in.n, &in.list, out->text, in.text_length);
+}
+static void c_read_newick(struct answer *out)
+{
+    out->reply = plain_read_newick(in.n, in.text, in.text_length, &out->list);
 }
 static void c_find_record(struct answer *out) { out->reply = plain_find_record(in.record, in.record_length); }
 static void c_run_record(struct answer *out)
@@ -289,6 +314,37 @@ static void measure_trees(void)
     measure("sum_paths, 125 rows", library_sum_paths, c_sum_paths, NULL);
 }
 
+static void tree_list(splitbox_list *list)
+{
+    uint64_t trials;
+    tree_matrix(SPLITBOX_TAXA, in.entries);
+    plain_run_matrix(SPLITBOX_TAXA, in.entries, MATRIX_ROOM, list, &trials);
+}
+
+static const struct {
+    const char *write, *read;
+    void (*make)(splitbox_list *list);
+} newicks[] = {
+    {"write_newick, deepest", "read_newick, deepest", deepest_list},
+    {"write_newick, star", "read_newick, star", star_list},
+    {"write_newick, random tree", "read_newick, random tree", tree_list},
+};
+
+static void measure_newick(void)
+{
+    in.n = SPLITBOX_TAXA;
+    for (size_t i = 0; i < sizeof newicks / sizeof newicks[0]; i++) {
+        newicks[i].make(&in.list);
+        if (plain_newick_length(in.n, &in.list, &in.text_length) != SPLITBOX_DONE || in.text_length > TEXT_ROOM ||
+            plain_write_newick(in.n, &in.list, in.text, in.text_length) != SPLITBOX_DONE)
+            fail("a list for the measurements has no text");
+        if (i == 0)
+            measure("newick_length, deepest", library_newick_length, c_newick_length, NULL);
+        measure(newicks[i].write, library_write_newick, c_write_newick, NULL);
+        measure(newicks[i].read, library_read_newick, c_read_newick, NULL);
+    }
+}
+
 static void measure_records(void)
 {
     static uint8_t body[4 * MATRIX_ROOM];
@@ -312,6 +368,7 @@ int main(void)
     print_head("other calls", false);
     measure_growth();
     measure_trees();
+    measure_newick();
     measure_records();
     printf("\nworst ratio to plain C: %.2f in %s\n", worst[PLAIN].ratio, worst[PLAIN].where);
     printf("worst ratio to fast C: %.2f in %s\n", worst[FAST].ratio, worst[FAST].where);

@@ -96,6 +96,21 @@ void tree_table(size_t n, uint8_t *bytes)
 #undef BETWEEN
 }
 
+/* Rows by ascending cluster: each taxon from 1 on by itself; then the groups of the last ones, from so many on. */
+static void list_of_singles(splitbox_list *list, size_t least_group)
+{
+    *list = (splitbox_list){.taxa = SPLITBOX_TAXA};
+    for (size_t i = 1; i < SPLITBOX_TAXA; i++)
+        list->clusters[list->rows++] = (uint64_t)1 << i;
+    for (size_t size = least_group; size < SPLITBOX_TAXA; size++)
+        list->clusters[list->rows++] = ~(uint64_t)0 << (SPLITBOX_TAXA - size);
+    for (size_t row = 0; row < list->rows; row++)
+        list->weights[row] = random_to(SPLITBOX_WEIGHT);
+}
+
+void deepest_list(splitbox_list *list) { list_of_singles(list, 2); }
+void star_list(splitbox_list *list) { list_of_singles(list, SPLITBOX_TAXA - 1); }
+
 void matrix_body(size_t n, const uint32_t *entries, uint8_t *body)
 {
     for (size_t e = 0; e < n * n; e++)

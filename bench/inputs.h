@@ -8,6 +8,7 @@
 #define TABLE_ROOM SPLITBOX_TABLE(SPLITBOX_TAXA)
 #define TREE_ROOM SPLITBOX_TREE(SPLITBOX_TAXA, SPLITBOX_ROWS)
 #define RECORD_ROOM SPLITBOX_RECORD(TABLE_ROOM)
+#define TEXT_ROOM 4096 /* more than any list's Newick text has */
 
 /* Distances from 1 to 1,000,000, each by itself. */
 void uniform_matrix(size_t n, uint32_t *entries);
@@ -20,6 +21,11 @@ void noisy_matrix(size_t n, uint32_t *entries);
 
 /* What such a tree says of each four: with 2n-3 splits, all resolved. */
 void tree_table(size_t n, uint8_t *bytes);
+
+/* Lists of 64 taxa by themselves: the deepest, one taxon after the other beside all that follow (125 rows, a Newick text of 63
+ * nested brackets); and a star, each taxon by itself. */
+void deepest_list(splitbox_list *list);
+void star_list(splitbox_list *list);
 
 /* The words of a matrix as the bytes of a body. */
 void matrix_body(size_t n, const uint32_t *entries, uint8_t *body);

@@ -20,6 +20,9 @@ static uint8_t table[TABLE_ROOM], entries_body[4 * MATRIX_ROOM], tree[TREE_ROOM]
 static uint8_t matrix_record[SPLITBOX_RECORD(4 * MATRIX_ROOM)], table_record[RECORD_ROOM];
 static uint8_t tree_record[SPLITBOX_RECORD(TREE_ROOM)];
 static splitbox_list full; /* the matrix's list, of 125 rows */
+static splitbox_list deep; /* the one whose text is deepest */
+static uint8_t text[2 * TEXT_ROOM];
+static size_t deep_length, text_length;
 
 /* What the calls write. */
 static splitbox_list list;
@@ -48,6 +51,9 @@ static void grow_table(void)
 static void write_tree(void) { reply = splitbox_write_tree(N, SPLITBOX_GIVEN(&full), out, TREE_ROOM); }
 static void read_tree(void) { reply = splitbox_read_tree(N, tree, TREE_ROOM, SPLITBOX_LENT(&list)); }
 static void sum_paths(void) { reply = splitbox_sum_paths(N, SPLITBOX_GIVEN(&full), sums, MATRIX_ROOM); }
+static void newick_length(void) { reply = splitbox_newick_length(N, SPLITBOX_GIVEN(&deep), &deep_length); }
+static void write_newick(void) { reply = splitbox_write_newick(N, SPLITBOX_GIVEN(&deep), out, deep_length); }
+static void read_newick(void) { reply = splitbox_read_newick(N, text, text_length, SPLITBOX_LENT(&list)); }
 static void find_record(void) { reply = splitbox_find_record(table_record, sizeof table_record); }
 static void find_taken(void) { reply = splitbox_find_taken(table_record, sizeof table_record, true, true, true); }
 static void body_start(void)
@@ -97,6 +103,9 @@ static const struct {
     {"splitbox_grow_table", "64 taxa, 125 rows", grow_table},
     {"splitbox_write_tree", "64 taxa, 125 rows", write_tree},
     {"splitbox_read_tree", "64 taxa, 125 rows", read_tree},
+    {"splitbox_newick_length", "64 taxa, 63 brackets", newick_length},
+    {"splitbox_write_newick", "64 taxa, 63 brackets", write_newick},
+    {"splitbox_read_newick", "64 taxa, 130 brackets", read_newick},
     {"splitbox_sum_paths", "64 taxa, 125 rows", sum_paths},
     {"splitbox_find_record", "a table of 64 taxa", find_record},
     {"splitbox_find_taken", "a table of 64 taxa", find_taken},
@@ -141,6 +150,28 @@ static size_t depth_of(void (*call)(void))
     return one > other ? one : other;
 }
 
+static void put_text(const void *bytes, size_t count)
+{
+    memcpy(text + text_length, bytes, count);
+    text_length += count;
+}
+
+/* The deepest list's text, in brackets by themselves with edges of length 0 until 130 are nested. */
+static void make_text(void)
+{
+    deepest_list(&deep);
+    newick_length();
+    write_newick();
+    if (reply != SPLITBOX_DONE)
+        fail("the deepest list has no text");
+    for (size_t depth = SPLITBOX_DEPTH; depth > N - 1; depth--)
+        put_text("(", 1);
+    put_text(out, deep_length - 1);
+    for (size_t depth = SPLITBOX_DEPTH; depth > N - 1; depth--)
+        put_text(":0)", 3);
+    put_text(";", 1);
+}
+
 static void make_inputs(void)
 {
     tree_matrix(N, entries);
@@ -158,6 +189,7 @@ static void make_inputs(void)
     make_record(SPLITBOX_KIND_MATRIX, N, entries_body, sizeof entries_body, matrix_record);
     make_record(SPLITBOX_KIND_TABLE, N, table, sizeof table, table_record);
     make_record(SPLITBOX_KIND_TREE, N, tree, sizeof tree, tree_record);
+    make_text();
 }
 
 int main(void)

@@ -29,6 +29,7 @@ extern "C" {
 #define SPLITBOX_WEIGHT 2000000   /* greatest weight */
 #define SPLITBOX_RUN 7751         /* a whole run never costs more trials */
 #define SPLITBOX_STEP 247         /* an allowance that always adds a taxon, when one remains */
+#define SPLITBOX_DEPTH 130        /* deepest nesting of brackets in a Newick text that is read */
 
 /* Lengths, in elements. */
 #define SPLITBOX_MATRIX(n) ((size_t)(n) * (n))                                           /* entries of a matrix; path sums */
@@ -57,13 +58,17 @@ extern "C" {
  *    9  first byte of a tree disagrees with the length, or a link or home above it
  *   10  some vertex's walk never reaches the root           place: the lowest such vertex
  *   11  taxon 0 not at home at the root
- *   12  an edge with no taxon beyond it                     place: the lowest such vertex
- *   13  two edges with equal clusters                       place: the lowest of them
- *   14  tree weight 0 or above 2,000,000                    place: the lowest such vertex
+ *   12  an edge with no taxon beyond it                     place: the lowest such vertex *
+ *   13  two edges with equal clusters                       place: the lowest of them *
+ *   14  tree weight 0 or above 2,000,000                    place: the lowest such vertex *
  *   15  mark wrong
  *   16  under 8 bytes, or the record is cut
  *   17  unknown kind; or, after 18, a known kind the call doesn't take
  *   18  pad not zero, or words don't add to zero
+ *   19  Newick text outside the grammar or too deep         place: its first bad byte; cut short, its length
+ *   20  a taxon repeated or not below n; else one missing   place: the first byte of the first such; else the semicolon
+ * * In a Newick text the first byte of the earliest such edge's weight; a weight of 0 is none there. Places in a text are indices
+ *   of bytes, from 0 (one of 2^48-1 or more would be said as 2^48-1, which no text reaches).
  */
 static inline unsigned splitbox_number(uint64_t reply) { return (unsigned)(reply & 255); }
 static inline size_t splitbox_place(uint64_t reply) { return (size_t)(reply >> 8); }
@@ -112,6 +117,22 @@ uint64_t splitbox_write_tree(size_t n, size_t taxa, size_t rows, const uint64_t 
 /* A tree read, its vertices numbered freely except that the root is m. Writes its list. Refuses 1 2 9 14 10 11 12 13. */
 uint64_t splitbox_read_tree(size_t n, const uint8_t *body, size_t body_length, size_t *taxa, size_t *rows,
                             uint64_t clusters[SPLITBOX_ROWS], uint32_t weights[SPLITBOX_ROWS]);
+
+/* THE NEWICK TEXT of a list with all n taxa, ending in a semicolon: a vertex is its taxa, ascending, and its children, by row, in
+ * brackets, then a colon and its weight; a taxon there is a leaf of length 0. A childless vertex with one taxon is that taxon's
+ * number with the weight, and the root has no weight. Refuses 1 8, and 7 where the text is written.
+ * The text's length in bytes, and the text, into exactly so many. */
+uint64_t splitbox_newick_length(size_t n, size_t taxa, size_t rows, const uint64_t clusters[SPLITBOX_ROWS],
+                                const uint32_t weights[SPLITBOX_ROWS], size_t *length);
+uint64_t splitbox_write_newick(size_t n, size_t taxa, size_t rows, const uint64_t clusters[SPLITBOX_ROWS],
+                               const uint32_t weights[SPLITBOX_ROWS], uint8_t *out, size_t out_length);
+
+/* A text read, any program's: its children in any order, every one with a weight, no spaces, quotes or names, brackets nested at
+ * most SPLITBOX_DEPTH deep; bytes behind the semicolon are not looked at. It is re-rooted at taxon 0's home; an edge of length 0 is
+ * dropped, its ends joined. Two edges that meet by themselves at a vertex without taxa, such as a root with two branches, are not
+ * added up: 13. Writes its list. Refuses 1 19 20 14 12 13. */
+uint64_t splitbox_read_newick(size_t n, const uint8_t *text, size_t text_length, size_t *taxa, size_t *rows,
+                              uint64_t clusters[SPLITBOX_ROWS], uint32_t weights[SPLITBOX_ROWS]);
 
 /* PATH SUMS of a list with all n taxa, into n by n numbers, row by row: the sum of weights on the path between two taxa, never
  * above 250,000,000. Refuses 1 8 7. */

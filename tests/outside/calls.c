@@ -155,6 +155,44 @@ uint64_t call_read_tree(size_t n, const uint8_t *body, size_t length)
     return wanted;
 }
 
+uint64_t call_newick_length(size_t n, const splitbox_list *list, size_t *length)
+{
+    begin_case(FUNCTION_newick_length, "n %zu, taxa %zu, rows %zu", n, list->taxa, list->rows);
+    lent_list lent = lend_list(list);
+    size_t *out = lend("length", sizeof(size_t), 1, NULL);
+    uint64_t wanted = reference_newick_length(n, list, length);
+    if (!refused(wanted))
+        want(out, length, sizeof *length);
+    end_case(wanted, splitbox_newick_length(n, *lent.taxa, *lent.rows, lent.clusters, lent.weights, out));
+    return wanted;
+}
+
+uint64_t call_write_newick(size_t n, const splitbox_list *list, size_t out_length)
+{
+    static uint8_t text[1 << 16];
+    begin_case(FUNCTION_write_newick, "n %zu, taxa %zu, rows %zu, output %zu", n, list->taxa, list->rows, out_length);
+    lent_list lent = lend_list(list);
+    uint8_t *out = lend("out", 1, out_length, NULL);
+    uint64_t wanted = reference_write_newick(n, list, text, out_length);
+    if (!refused(wanted))
+        want(out, text, out_length);
+    end_case(wanted, splitbox_write_newick(n, *lent.taxa, *lent.rows, lent.clusters, lent.weights, out, out_length));
+    return wanted;
+}
+
+uint64_t call_read_newick(size_t n, const uint8_t *text, size_t length, splitbox_list *list)
+{
+    int shown = (int)(length < 150 ? length : 150);
+    begin_case(FUNCTION_read_newick, "n %zu, length %zu, %.*s", n, length, shown, (const char *)text);
+    const uint8_t *bytes = lend("text", 1, length, text);
+    lent_list lent = lend_list(NULL);
+    uint64_t wanted = reference_read_newick(n, text, length, list);
+    if (!refused(wanted))
+        want_list(&lent, list);
+    end_case(wanted, splitbox_read_newick(n, bytes, length, lent.taxa, lent.rows, lent.clusters, lent.weights));
+    return wanted;
+}
+
 /* Begins a case about a record and lends it. */
 static const uint8_t *begin_record(function called, const uint8_t *bytes, size_t length)
 {

@@ -19,6 +19,11 @@ uint64_t call_sum_paths(size_t n, const splitbox_list *list, size_t out_length);
 
 uint64_t call_read_tree(size_t n, const uint8_t *body, size_t length);
 
+/* Newick texts: the length, and the text into so many bytes; a text read. Length and list are then what the reference makes. */
+uint64_t call_newick_length(size_t n, const splitbox_list *list, size_t *length);
+uint64_t call_write_newick(size_t n, const splitbox_list *list, size_t out_length);
+uint64_t call_read_newick(size_t n, const uint8_t *text, size_t length, splitbox_list *list);
+
 /* Every function that takes a record at the start of some bytes; the running one where wanted. */
 void call_record(const uint8_t *bytes, size_t length, bool run);
 

@@ -131,7 +131,7 @@ void end_case(uint64_t wanted, uint64_t got)
 void agree(const char *what, bool holds)
 {
     if (!holds && ++mismatches <= PRINTED)
-        printf("mismatch: the reference against document 01: %s\n", what);
+        printf("mismatch: the reference against the documents: %s\n", what);
 }
 
 int finish(void)

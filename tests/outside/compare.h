@@ -11,8 +11,8 @@
 /* Every function of the header. */
 #define FUNCTIONS(each)                                                                                                        \
     each(start) each(run_matrix) each(run_table) each(grow_matrix) each(grow_table) each(write_tree) each(read_tree)           \
-    each(sum_paths) each(find_record) each(find_taken) each(body_start) each(body_length) each(write_record) each(walk)        \
-    each(run_record)
+    each(newick_length) each(write_newick) each(read_newick) each(sum_paths) each(find_record) each(find_taken)                \
+    each(body_start) each(body_length) each(write_record) each(walk) each(run_record)
 #define FUNCTION_NUMBER(name) FUNCTION_##name,
 typedef enum function { FUNCTIONS(FUNCTION_NUMBER) FUNCTION_COUNT } function;
 

@@ -4,7 +4,7 @@
 
 #include "reference.h"
 
-enum { BODY_ROOM = 640000, RECORD_ROOM = BODY_ROOM + 64 };
+enum { BODY_ROOM = 640000, RECORD_ROOM = BODY_ROOM + 64, TEXT_ROOM = 1 << 16, FREE_EDGES = 600 };
 
 size_t odd_n(size_t n); /* a number of taxa that is refused, or the wrong one */
 
@@ -34,5 +34,36 @@ size_t damage_tree(size_t n, uint8_t *body, size_t length);
 size_t make_body(uint8_t kind, size_t n, bool damaged, uint8_t *body);
 size_t make_record(size_t most_taxa, uint8_t *record);
 size_t damage_record(uint8_t *record, size_t length);
+
+/* A tree to write Newick texts of: it has no root, and any vertex may be taken for it. */
+#define LONG_NUMBER (UINT64_MAX - 1) /* a length that is written as some number of 8 to 67 digits, above all limits */
+typedef struct free_edge {
+    size_t one, other;
+    uint64_t length;
+} free_edge;
+typedef struct free_tree {
+    size_t n, vertices, edges;
+    free_edge edge[FREE_EDGES];
+    size_t homes[64];
+    uint64_t names[64]; /* the number that is written for a taxon */
+    size_t stump;       /* a vertex with one edge and no taxon, which has to be the root; else SIZE_MAX */
+} free_tree;
+
+/* The tree of a list with all taxa; every text of it gives that list. */
+void make_free(const splitbox_list *list, free_tree *t);
+
+/* Divides some vertex in two by an edge of length 0, which changes nothing; to lengthen a path, one thing is moved. */
+void loosen(free_tree *t, bool lengthen);
+
+/* Changes a length or a taxon's number, or puts in a vertex without a taxon. The tree may still be accepted. */
+void spoil(free_tree *t);
+
+/* A text from any vertex on, with all children in any order; its length. Damage to a text, its new length. */
+size_t make_text(const free_tree *t, uint8_t *text);
+size_t damage_text(uint8_t *text, size_t length);
+uint8_t text_byte(void);
+
+/* A text of taxa 0, 1 and 2 with brackets nested so deep, two at least. */
+size_t nested_text(size_t depth, uint8_t *text);
 
 #endif

@@ -159,6 +159,127 @@ static void trees_read(size_t n)
     }
 }
 
+/* Newick texts */
+
+static uint8_t text[TEXT_ROOM];
+
+/* A list's text has the length that is told, and gives the list again. */
+static void written_and_read(size_t n, const splitbox_list *list)
+{
+    size_t length = 0;
+    splitbox_list read;
+    if (call_newick_length(n, list, &length) != SPLITBOX_DONE)
+        return;
+    call_write_newick(n, list, length);
+    reference_write_newick(n, list, text, length);
+    agree("a list's text gives the list", call_read_newick(n, text, length, &read) == SPLITBOX_DONE && same(&read, list));
+}
+
+static void texts_of_lists(size_t n)
+{
+    size_t length = 20;
+    splitbox_list list;
+    make_list(&list, n, chance(50) ? 100 : 60, chance(50) ? SPLITBOX_WEIGHT : 12);
+    written_and_read(n, &list);
+    reference_newick_length(n, &list, &length);
+    if (chance(40))
+        break_list(&list, n, SPLITBOX_WEIGHT);
+    if (chance(10))
+        list.taxa = 1 + below(n);
+    if (chance(10))
+        n = odd_n(n);
+    if (chance(5))
+        list.taxa = n;
+    call_newick_length(n, &list, &length);
+    call_write_newick(n, &list, length);
+    call_write_newick(n, &list, any_length(length));
+}
+
+/* Texts of one tree, from any vertex on and with children in any order, are answered alike; those of a list's tree give it. */
+static void texts_of_one_tree(size_t n)
+{
+    const unsigned keeps[] = {100, 80, 40, 10};
+    splitbox_list list, first, read;
+    free_tree t;
+    make_list(&list, n, keeps[below(4)], chance(50) ? SPLITBOX_WEIGHT : 12);
+    make_free(&list, &t);
+    for (size_t times = below(chance(5) ? 400 : n); times > 0; times--)
+        loosen(&t, chance(50));
+    bool spoiled = chance(50);
+    for (size_t times = spoiled ? 1 + below(3) : 0; times > 0; times--)
+        spoil(&t);
+    unsigned number = 19;
+    for (size_t i = 0; i < 4; i++) {
+        size_t length = make_text(&t, text);
+        uint64_t reply = call_read_newick(n, text, length, &read);
+        if (splitbox_number(reply) == 19) /* from this vertex on it is too deep */
+            continue;
+        agree("a text of a list's tree gives that list", spoiled || (reply == SPLITBOX_DONE && same(&read, &list)));
+        agree("texts of a tree get the same answer", number == 19 || (number == splitbox_number(reply) &&
+                                                                      (reply != SPLITBOX_DONE || same(&read, &first))));
+        number = splitbox_number(reply), first = read;
+    }
+    for (size_t i = 0; i < 6; i++) {
+        size_t length = make_text(&t, text);
+        fill(text + length, 16);
+        length = damage_text(text, length);
+        call_read_newick(chance(95) ? n : odd_n(n), text, length, &read);
+    }
+    call_read_newick(n + 1 - 2 * below(2), text, make_text(&t, text), &read); /* a taxon is missing, or one too many is there */
+}
+
+/* One text: cut at every place, and there a byte taken out, put in and put in place of the one there. */
+static void damage_everywhere(size_t n)
+{
+    static uint8_t damaged[TEXT_ROOM];
+    static const uint8_t bytes[] = "(),:;019 '[.x\n\xe9";
+    splitbox_list list;
+    free_tree t;
+    make_list(&list, n, 70, 12);
+    make_free(&list, &t);
+    loosen(&t, false);
+    size_t length = make_text(&t, text);
+    for (size_t where = 0; where <= length; where++) {
+        call_read_newick(n, text, where, &list);
+        memcpy(damaged, text, where);
+        memcpy(damaged + where, text + where + 1, length - where);
+        call_read_newick(n, damaged, length - (where < length), &list);
+        for (size_t i = 0; i < sizeof bytes; i++) { /* a zero byte too */
+            damaged[where] = bytes[i];
+            memcpy(damaged + where + 1, text + where, length - where);
+            call_read_newick(n, damaged, length + 1, &list);
+            memcpy(damaged + where + 1, text + where + 1, length - where);
+            call_read_newick(n, damaged, length, &list);
+        }
+    }
+}
+
+/* Short texts just outside the grammar, brackets nested up to the limit and beyond, and bytes at random. */
+static void odd_texts(void)
+{
+    static const char *const odd[] = {
+        "", ";", "(", "()", "();", "0;", "0:0;", "(0:0)", "(0:0,1:0)", "(0:0,1:0);", "(0:0,1:0):5;", " (0:0,1:0);", "(0:0,1:0);x",
+        "(0:0,1:0);;", "('0':0,1:0);", "(a:0,1:0);", "(0:0,1:0.5);", "(0:0[x],1:0);", "(0:0, 1:0);", "(0:00,1:0);", "(00:0,1:0);",
+        "(0:0,01:0);", "(0,1);", "(0:,1:0);", "((0:0,1:0),2:0);", "((0:0,1:0):,2:0);", "(:0,1:0);", "(0:0,:0);", "(,);",
+        "((),1:0);", "(0:-1,1:0);", "(0:1e3,1:0);", "(0:0,1:0)a;", "(0:0,1:0)\n;"};
+    splitbox_list list;
+    for (size_t i = 0; i < sizeof odd / sizeof *odd; i++)
+        for (size_t n = 0; n < 4; n++)
+            call_read_newick(n == 0 ? odd_n(2) : n, (const uint8_t *)odd[i], strlen(odd[i]), &list);
+    for (size_t depth = 2; depth < 140; depth += depth < 120 ? 13 : 1) {
+        size_t length = nested_text(depth, text);
+        uint64_t reply = call_read_newick(3, text, length, &list);
+        agree("130 brackets are taken, the 131st is not", reply == (depth <= 130 ? SPLITBOX_DONE : reference_reply(19, 130)));
+        call_read_newick(3, text, below(length), &list);
+    }
+    for (size_t i = 0; i < 40; i++) {
+        size_t length = below(20);
+        for (size_t at = 0; at < length; at++)
+            text[at] = text_byte();
+        call_read_newick(2 + below(3), text, length, &list);
+    }
+}
+
 /* From a matrix to the tree of its list, and that read back. */
 static void trees_of_runs(size_t n)
 {
@@ -170,6 +291,7 @@ static void trees_of_runs(size_t n)
     call_write_tree(n, &list, SPLITBOX_TREE(n, list.rows));
     call_sum_paths(n, &list, SPLITBOX_MATRIX(n));
     call_read_tree(n, body, make_tree(n, &list, body));
+    written_and_read(n, &list);
 }
 
 /* Records */
@@ -229,7 +351,60 @@ static void files_walked(void)
     call_walk(file, length, &place);
 }
 
-/* Cases that document 01 gives with their figures; they bind the reference too. */
+/* The examples of document 02 §2, of what is read from it, and some more, each worked out by hand. */
+static const struct {
+    size_t n;
+    const char *text;
+    unsigned number;
+    size_t place;
+    splitbox_list list;
+    const char *again; /* the list written, where that is another text */
+} newick_figures[] = {
+    {2, "(0:0,1:0);", 0, 0, {2, 0, {0}, {0}}, NULL},
+    {2, "(0:0,1:7);", 0, 0, {2, 1, {2}, {7}}, NULL},
+    {2, "(1:0,0:7);", 0, 0, {2, 1, {2}, {7}}, "(0:0,1:7);"},
+    {3, "((0:1,1:2,2:3):0);", 0, 0, {3, 3, {2, 4, 6}, {2, 3, 1}}, "(0:0,(1:2,2:3):1);"},
+    {3, "((1:0,2:0):2000000,0:0);", 0, 0, {3, 1, {6}, {2000000}}, "(0:0,(1:0,2:0):2000000);"},
+    {4, "((0:1,1:2):3,2:4,3:5);", 0, 0, {4, 5, {2, 4, 8, 12, 14}, {2, 4, 5, 3, 1}}, "(0:0,(1:2,(2:4,3:5):3):1);"},
+    {4, "(0:0,(1:6,(2:8,3:10):6):4);", 0, 0, {4, 5, {2, 4, 8, 12, 14}, {6, 8, 10, 6, 4}}, NULL},
+    {4, "((3:10,2:8):6,(0:4):0,1:6);x", 0, 0, {4, 5, {2, 4, 8, 12, 14}, {6, 8, 10, 6, 4}}, "(0:0,(1:6,(2:8,3:10):6):4);"},
+    {2, "", 19, 0, {0}, NULL},
+    {2, "(0,1:1);", 19, 2, {0}, NULL},
+    {2, "0:5;", 19, 0, {0}, NULL},
+    {2, "(0:0,1:0):5;", 19, 9, {0}, NULL},
+    {2, "(0:0,01:0);", 19, 6, {0}, NULL},
+    {2, "(0:0,1:0)", 19, 9, {0}, NULL},
+    {2, "(0:0,2:0,0:0);", 20, 5, {0}, NULL},
+    {2, "(0:0,0:0,2:0);", 20, 5, {0}, NULL},
+    {3, "(0:0,1:1);", 20, 9, {0}, NULL},
+    {2, "(0:0,1:2000001);", 14, 7, {0}, NULL},
+    {3, "((0:1,1:2,2:3):5);", 12, 15, {0}, NULL},
+    {4, "((0:1,1:2):3,(2:4,3:5):6);", 13, 11, {0}, NULL},
+    {2, "(0:5,1:3);", 13, 3, {0}, NULL},
+    {2, "((0:5,1:3):1);", 12, 11, {0}, NULL},
+    {2, "((0:5,1:3):2000001);", 14, 11, {0}, NULL},
+};
+
+static void figures_newick(void)
+{
+    for (size_t i = 0; i < sizeof newick_figures / sizeof *newick_figures; i++) {
+        const char *given = newick_figures[i].text, *again = newick_figures[i].again;
+        const splitbox_list *known = &newick_figures[i].list;
+        splitbox_list list;
+        size_t n = newick_figures[i].n, length = strlen(given);
+        uint64_t reply = call_read_newick(n, (const uint8_t *)given, length, &list);
+        agree(given, reply == reference_reply(newick_figures[i].number, newick_figures[i].place));
+        if (newick_figures[i].number != 0)
+            continue;
+        again = again ? again : given;
+        agree(given, same(&list, known));
+        written_and_read(n, known);
+        reply = reference_write_newick(n, known, text, strlen(again));
+        agree(again, reply == SPLITBOX_DONE && memcmp(text, again, strlen(again)) == 0);
+    }
+}
+
+/* Cases that the documents give with their figures; they bind the reference too. */
 static void figures(void)
 {
     const uint32_t a[] = {0, 5, 9, 10, 5, 0, 10, 11, 9, 10, 0, 9, 10, 11, 9, 0};
@@ -253,6 +428,7 @@ static void figures(void)
     s = (source){SPLITBOX_KIND_MATRIX, 64, zeros, table, 64 * 64};
     call_run(&s, &none);
     call_run(&s, NULL);
+    figures_newick();
 }
 
 /* One round: everything at small numbers of taxa, where the reference tries every split, and a little above. */
@@ -272,6 +448,9 @@ static void small_round(void)
     records_written(small);
     records_written(small);
     files_walked();
+    texts_of_lists(chance(60) ? small : 2 + below(63));
+    texts_of_one_tree(small);
+    texts_of_one_tree(chance(60) ? middle : 2 + below(63));
 }
 
 /* The same at up to so many taxa: all that is cheap, and some of what costs. */
@@ -314,6 +493,10 @@ int main(int count, char **words)
         carried_lists(24 + below(41));
         trees_of_runs(24 + below(17));
         records_found(64);
+        texts_of_one_tree(64);
+        texts_of_lists(64);
+        damage_everywhere(2 + i);
+        odd_texts();
     }
     return finish();
 }

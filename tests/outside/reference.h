@@ -1,5 +1,5 @@
-/* A second implementation of document 01, written from its definitions alone, to hold the library against. It is plain rather
- * than fast: every four is looked at one by one, and small answers come from trying all splits there are.
+/* A second implementation of documents 01 and 02, written from their definitions alone, to hold the library against. It is plain
+ * rather than fast: every four is looked at one by one, and small answers come from trying all splits there are.
  *
  * Replies have the library's numbers and places. As with the library, a refusal leaves everything that is lent as it was. */
 #ifndef REFERENCE_H
@@ -35,6 +35,10 @@ uint64_t reference_grow(const source *s, uint64_t allowance, splitbox_list *list
 uint64_t reference_write_tree(size_t n, const splitbox_list *list, uint8_t *out, size_t out_length);
 uint64_t reference_read_tree(size_t n, const uint8_t *body, size_t length, splitbox_list *list);
 uint64_t reference_sum_paths(size_t n, const splitbox_list *list, uint64_t *out, size_t out_length);
+
+uint64_t reference_newick_length(size_t n, const splitbox_list *list, size_t *length);
+uint64_t reference_write_newick(size_t n, const splitbox_list *list, uint8_t *out, size_t out_length);
+uint64_t reference_read_newick(size_t n, const uint8_t *text, size_t length, splitbox_list *list);
 
 /* A record of any kind, n and body, unchecked: its length, and its bytes into out. Sealing sets the sum word anew. */
 size_t reference_compose(uint8_t kind, uint8_t n, const uint8_t *body, size_t length, uint8_t *out);

@@ -25,10 +25,10 @@ use Rattle.statement.specs.Calls.{unlessRefused, refusedRun, refusedGrowth, ref
 use Rattle.statement.proofs.Refused.{refused-exactly}
 use Rattle.claims.specs.Demands.{ExactlyWhen, RefusedIs, Unaltered}
 
-abbrev NotRefused : Outcome → Type 0
+abbrev pub NotRefused : Outcome → Type 0
 NotRefused o = (number place : ℕ) → o ≡ Refused number place → ⊥
 
-done-not : NotRefused Done
+pub done-not : NotRefused Done
 done-not number place e = let z : _≡_ {A = ℕ} 0 1 = cc in omega arith
 
 short-not : NotRefused Short
@@ -41,19 +41,19 @@ module _ {A : Type 0} (outcomeIn : A → Outcome) (left : Outcome → A) (given 
   refused-by Short number place = ((λ e. absurd (not number place e)), (λ e. absurd (short-not number place e)))
   refused-by (Refused m p) number place = ((λ e. sym (says (Refused m p)) ∙ e), (λ e. says (Refused m p) ∙ e))
 
-  exactly : (checks : List Check) → ExactlyWhen (outcomeIn (unlessRefused (outcomeOf checks) (left (outcomeOf checks)) given)) checks
+  pub exactly : (checks : List Check) → ExactlyWhen (outcomeIn (unlessRefused (outcomeOf checks) (left (outcomeOf checks)) given)) checks
   exactly checks number place =
       let a = refused-by (outcomeOf checks) number place in
       let b = refused-exactly checks number place in
       ((λ e. b .0 (a .0 e)), (λ g. a .1 (b .1 g)))
 
-  listed : (o : Outcome) → RefusedIs outcomeIn (unlessRefused o (left o) given) left
+  pub listed : (o : Outcome) → RefusedIs outcomeIn (unlessRefused o (left o) given) left
   listed Done number place e = absurd (not number place e)
   listed Short number place e = absurd (not number place e)
   listed (Refused m p) number place e = ap left (sym (says (Refused m p)) ∙ e)
 
 -- a buffer lent to a call
-unaltered : (o : Outcome) (before written : List ℕ) → Unaltered o before (unlessRefused o before written)
+pub unaltered : (o : Outcome) (before written : List ℕ) → Unaltered o before (unlessRefused o before written)
 unaltered Done before written number place e = absurd (done-not number place e)
 unaltered Short before written number place e = absurd (short-not number place e)
 unaltered (Refused m p) before written number place e = refl
@@ -61,7 +61,7 @@ unaltered (Refused m p) before written number place e = refl
 abbrev growthOutcome : Growth → Outcome
 growthOutcome g = g .outcome
 
-abbrev readingOutcome : Reading → Outcome
+abbrev pub readingOutcome : Reading → Outcome
 readingOutcome g = g .outcome
 
 run-not : (g : Manner) (n : ℕ) → NotRefused (wholeRun g n .outcome)

@@ -11,7 +11,8 @@ use lib.Dec.{ltb, eqb}
 use borrow.Author.Tests.{ltb-true, ltb-false, lt-ltb, le-ltb, eq-eqb, ne-eqb}
 use lib.ListN.{length, getD, drop, List·getD-map}
 use lib.Seq.{drop-cons, drop-nil}
-use Rattle.numerals.specs.Numerals.{digit, space, startsAt, onFrom, numberAt, startsFrom, startsIn, numbersIn, numberLimit, wrongAt}
+use Rattle.statement.specs.Decimal.{digit, onFrom, span}
+use Rattle.numerals.specs.Numerals.{space, startsAt, numberAt, startsFrom, startsIn, numbersIn, numberLimit, wrongAt}
 use Rattle.numerals.specs.declared.Place.{Place}
 use Rattle.numerals.specs.Place.{behind, placeOf}
 
@@ -56,6 +57,23 @@ module _ (text : List ℕ) (i v : ℕ) where
   pub text-ends : length text ≤ i → onFrom v (drop i text) ≡ v
   unfolding onFrom
   text-ends l = ap (onFrom v) (drop-all text i l)
+
+  -- and how many digits stand there
+  span-step : i < length text → (d : Bool) → digit (getD text i 0) ≡ d → span (drop i text) ≡ cond d (suc (span (drop (i + 1) text))) 0
+  unfolding span
+  span-step l d e =
+      ap span (drop-cons text i 0 l ∙ ap (λ (j : ℕ). getD text i 0 ∷ drop j text) (sym (add-one i)))
+      ∙ ap (λ (t : Bool). cond t (suc (span (drop (i + 1) text))) 0) e
+
+  pub span-on : i < length text → digit (getD text i 0) ≡ true → span (drop i text) ≡ suc (span (drop (i + 1) text))
+  span-on l e = span-step l true e
+
+  pub span-ends : i < length text → digit (getD text i 0) ≡ false → span (drop i text) ≡ 0
+  span-ends l e = span-step l false e
+
+  pub span-none : length text ≤ i → span (drop i text) ≡ 0
+  unfolding span
+  span-none l = ap span (drop-all text i l)
 
 -- THE STARTS from a place on
 abbrev pub startsOn : List ℕ → ℕ → List ℕ

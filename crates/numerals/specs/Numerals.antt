@@ -1,14 +1,12 @@
 -- WHOLE NUMBERS IN A TEXT, written in decimal with spaces between them: where each starts, its value, and which bytes do not belong.
-use Prim.Native.Nat.{ℕ, zero, suc, _+_, _*_, _-_}
+use Prim.Native.Nat.{ℕ, zero, suc, _-_}
 use mathlib.Core.Bool.{Bool, cond, not, _&&_, _||_}
 use mathlib.Core.List.{List, [], _∷_, map}
 use lib.Dec.{ltb, eqb}
 use lib.ListN.{length, getD, drop}
+use Rattle.statement.specs.Decimal.{digit, onFrom}
 
--- '0' to '9'; and what stands between numbers: space, tab, line end, carriage return
-abbrev pub digit : ℕ → Bool
-digit b = ltb 47 b && ltb b 58
-
+-- what stands between numbers: space, tab, line end, carriage return
 abbrev pub space : ℕ → Bool
 space b = eqb b 32 || (eqb b 9 || (eqb b 10 || eqb b 13))
 
@@ -20,11 +18,7 @@ digitAt text p = digit (getD text p 0)
 abbrev pub startsAt : List ℕ → ℕ → Bool
 startsAt text p = digitAt text p && (eqb p 0 || not (digitAt text (p - 1)))
 
--- the number that goes on from v with these bytes, as far as they are digits; the number at a place
-unfoldable pub onFrom : ℕ → List ℕ → ℕ
-onFrom v [] = v
-onFrom v (b ∷ bs) = cond (digit b) (onFrom (10 * v + (b - 48)) bs) v
-
+-- the number at a place
 abbrev pub numberAt : List ℕ → ℕ → ℕ
 numberAt text p = onFrom 0 (drop p text)
 

@@ -3,9 +3,10 @@
 ghost use Prim.Native.Nat.{_+_, _*_, _-_, _≤_, _<_, min};
 ghost use mathlib.Core.Path.{_≡_};
 ghost use mathlib.Core.Bool.{true};
-ghost use lib.ListN.{length, getD};
+ghost use lib.ListN.{length, getD, drop};
 ghost use Rattle.statement.specs.Lowest.{lowest};
-ghost use Rattle.numerals.specs.Numerals.{digit, space, startsAt, numberAt, startsIn, numbersIn, wrongAt};
+ghost use Rattle.statement.specs.Decimal.{digit, span};
+ghost use Rattle.numerals.specs.Numerals.{space, startsAt, numberAt, startsIn, numbersIn, wrongAt};
 ghost use Rattle.numerals.specs.Place.{behind, placeOf};
 
 // Line and column, both from 1.
@@ -14,13 +15,19 @@ pub struct Place {
     pub column: usize,
 }
 
-fn is_digit(b: u8) -> bool
+// A number that was read, and the place behind it.
+pub struct Number {
+    pub value: u64,
+    pub behind: usize,
+}
+
+pub fn is_digit(b: u8) -> bool
     ensures { λ r. ⌜ r ≡ digit b ⌝ }
 {
     b > 47 && b < 58
 }
 
-fn is_space(b: u8) -> bool
+pub fn is_space(b: u8) -> bool
     ensures { λ r. ⌜ r ≡ space b ⌝ }
 {
     b == 32 || (b == 9 || (b == 10 || b == 13))
@@ -61,20 +68,34 @@ fn with_digit(v: u64, b: u8) -> u64
     4294967296
 }
 
-// The number at a place; 4,294,967,296 where it is above 4,294,967,295.
-pub fn number_at(text: &[u8], p: usize) -> u64
-    ensures { λ r. ⌜ r ≡ min (numberAt (now (text .entry)) p) 4294967296 ⌝ }
+// The number at a place, 4,294,967,296 where it is above 4,294,967,295, and the place behind its digits.
+pub fn read_number(text: &[u8], p: usize) -> Number
+    ensures { λ r. ⌜ (r .value ≡ min (numberAt (now (text .entry)) p) 4294967296) × (r .behind ≡ p + span (drop p (now (text .entry)))) ⌝ }
 {
     let mut v: u64 = 0;
     let mut i = p;
     while i < text.len() {
         if !is_digit(text[i]) {
-            return v;
+            return Number {
+                value: v,
+                behind: i,
+            };
         }
         v = with_digit(v, text[i]);
         i += 1;
     }
-    v
+    Number {
+        value: v,
+        behind: i,
+    }
+}
+
+// The number alone.
+pub fn number_at(text: &[u8], p: usize) -> u64
+    ensures { λ r. ⌜ r ≡ min (numberAt (now (text .entry)) p) 4294967296 ⌝ }
+{
+    let read = read_number(text, p);
+    read.value
 }
 
 // Whether this is wrong at the place p: 1, a byte that is no digit and no space; 2, a number above 4,294,967,295.

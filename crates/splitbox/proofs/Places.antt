@@ -14,18 +14,24 @@ use Rattle.statement.specs.declared.Outcome.{Outcome}
 use Rattle.statement.specs.declared.Outcome.the-variants.{Done, Short, Refused}
 use Rattle.statement.specs.Matrix.{weightLimit}
 use Rattle.statement.specs.Table.{choose, tableWeight}
+use Rattle.statement.specs.Rows.{rowsOf}
 use Rattle.statement.specs.Tree.{root}
+use Rattle.statement.specs.Sentence.{Parsed, outside, sentence}
+use Rattle.statement.specs.NewickText.{newickLength}
 use Rattle.statement.specs.Bytes.{treeIn, fromBytes, treeLength}
-use Rattle.statement.specs.Refusals.{Check, outcomeOf, Passed, Given, lengthOff, outputOff, kindOff, byteOff, treeFits, listOff, matrixChecks, tableChecks, treeChecks, outputChecks, entryChecks, vertexChecks}
+use Rattle.statement.specs.Refusals.{Check, outcomeOf, Passed, Given, lengthOff, outputOff, kindOff, byteOff, treeFits, listOff, matrixChecks, tableChecks, treeChecks, outputChecks, listChecks, newickChecks, entryChecks, vertexChecks}
 use Rattle.statement.specs.Record.{Kind, kinds, isKind, fitsKind, bodyChecks, matrixKind, tableKind, recordLength, kindIn, taxaIn, recordChecks, takenChecks, bodyIn, writingChecks}
-use Rattle.statement.specs.Calls.{unlessRefused, refusedRun, runMatrix, runTable, growMatrix, growTable, readTree, writeTree, sumPaths, findRecord, writeRecord, runRecord}
+use Rattle.statement.specs.Calls.{unlessRefused, refusedRun, runMatrix, runTable, growMatrix, growTable, readTree, writeTree, measureNewick, writeNewick, sumPaths, findRecord, writeRecord, runRecord}
 use Rattle.statement.proofs.Tests.{both-is, less-is, not-is}
 use Rattle.statement.proofs.Accepted.{taxa-passed, length-passed}
 use Rattle.statement.proofs.Refused.{refused-exactly}
 use Rattle.record_write.proofs.RoundTrip.{tree-short, table-short, body-short}
-use Rattle.splitbox.specs.Face.{Shares}
+use Rattle.splitbox.specs.Face.{Shares, nearly}
 use Rattle.claims.specs.Demands.{ExactlyWhen}
 use Rattle.claims.proofs.Demand1.{run-matrix, run-table, grow-matrix, grow-table, read-tree, write-tree, sum-paths, find-record, write-record}
+use Rattle.newick_meaning.specs.Parse.{parsed, readNewick}
+use Rattle.newick_meaning.proofs.Parses.{text-parses}
+use Rattle.newick_claims.proofs.Replies.{read-newick, newick-length, write-newick}
 
 -- a line with a small number that looks at few places, given that those before it are passed
 abbrev Line : Check → Type 0
@@ -149,6 +155,36 @@ reading-fits n body = shares-by _ (treeChecks n body) (read-tree n body .0) (few
 
 pub tree-fits : (n : ℕ) (s : Splits) (out : List ℕ) → Shares (writeTree n s out)
 tree-fits n s out = shares-by _ (outputChecks n s (length out) (treeLength n (s .rows))) (write-tree n s out .0) (few-output n s (length out) (treeLength n (s .rows)))
+
+-- a text's numbers are as small; its places are said as far as they fit
+abbrev Numbered : List Check → Type 0
+Numbered [] = Unit {0}
+Numbered (c ∷ cs) = ((1 ≤ c .number) × (c .number < 254)) × Numbered cs
+
+given-number : (cs : List Check) (number place : ℕ) → Numbered cs → Given cs number place → (1 ≤ number) × (number < 254)
+given-number [] number place small given = absurd given
+given-number (c ∷ cs) number place small (inl fails) = let (low, high) = small .0 in (omega (arith, fails .named), omega (arith, fails .named))
+given-number (c ∷ cs) number place small (inr given) = given-number cs number place (small .1) (given .1)
+
+near-by : (o : Outcome) (cs : List Check) → ExactlyWhen o cs → Numbered cs → Shares (nearly o)
+near-by Done cs exactly small = tt
+near-by Short cs exactly small = tt
+near-by (Refused number place) cs exactly small = let (low, high) = given-number cs number place small (exactly number place .0 refl) in (low, high, omega arith)
+
+numbered : (n : ℕ) (p : Parsed) → Numbered (newickChecks n p)
+numbered n (outside k) = ((omega arith, omega arith), ((omega arith, omega arith), tt))
+numbered n (sentence f) =
+    ((omega arith, omega arith), ((omega arith, omega arith), ((omega arith, omega arith), ((omega arith, omega arith), ((omega arith, omega arith), tt)))))
+
+pub text-fits : (n : ℕ) (text : List ℕ) → Shares (nearly (readNewick n text .outcome))
+text-fits n text = near-by _ (newickChecks n (parsed text)) (read-newick n text (parsed text) (text-parses text) .0) (numbered n (parsed text))
+
+pub newick-length-fits : (n : ℕ) (s : Splits) → Shares (measureNewick n s)
+newick-length-fits n s = shares-by _ (listChecks n s) (newick-length n s) (line refl (omega arith), (λ p. (line refl (omega arith), (λ q. tt))))
+
+pub newick-fits : (n : ℕ) (s : Splits) (out : List ℕ) → Shares (writeNewick n s out)
+newick-fits n s out =
+    shares-by _ (outputChecks n s (length out) (newickLength n (rowsOf s))) (write-newick n s out .0) (few-output n s (length out) (newickLength n (rowsOf s)))
 
 pub paths-fit : (n : ℕ) (s : Splits) (out : List ℕ) → Shares (sumPaths n s out)
 paths-fit n s out = shares-by _ (outputChecks n s (length out) (n * n)) (sum-paths n s out .0) (few-output n s (length out) (n * n))

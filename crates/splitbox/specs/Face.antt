@@ -1,5 +1,5 @@
 -- What crosses to C: an outcome as one number, and a list in four lent places. A refusal leaves every lent slice and number as it was.
-use Prim.Native.Nat.{ℕ, _+_, _*_, _^_, _≤_, _<_}
+use Prim.Native.Nat.{ℕ, _+_, _-_, _*_, _^_, _≤_, _<_, min}
 use mathlib.Core.Path.{_≡_}
 use Rattle.statement.specs.declared.Splits.{Splits}
 use Rattle.statement.specs.declared.Growth.{Growth}
@@ -38,6 +38,16 @@ GrownBack grow r s₀ s t₀ t = HandedBack (grow s₀) r s₀ s t₀ t
 -- the same for a tree read
 abbrev pub ReadBack : Reading → ℕ → Splits → Splits → Type 0
 ReadBack g r s₀ s = (r ≡ replyOf (g .outcome)) × (s ≡ unlessRefused (g .outcome) s₀ (g .list))
+
+-- a place as a reply says it, where nothing limits it but the length of a text: no text reaches 2 ^ 48 bytes, and a place so far off is said as 2 ^ 48 - 1
+abbrev pub nearly : Outcome → Outcome
+nearly Done = Done
+nearly Short = Short
+nearly (Refused number place) = Refused number (min place (2 ^ 48 - 1))
+
+-- the same for a text read
+abbrev pub TextBack : Reading → ℕ → Splits → Splits → Type 0
+TextBack g r s₀ s = ReadBack (record { outcome = nearly (g .outcome); list = g .list }) r s₀ s
 
 -- THE WALKER's step: the reply r (a record is 0, the end 254, a refused record its number), and in the lent places where it stands (p), and the
 -- start and the length of a found body (b, l), where p₀, b₀ and l₀ were

@@ -11,10 +11,11 @@ ghost use mathlib.Core.List.{[]};
 ghost use Rattle.statement.specs.Rows.{listIn, listOf};
 ghost use Rattle.statement.specs.Refusals.{outcomeOf};
 ghost use Rattle.statement.specs.Record.{takenChecks};
-ghost use Rattle.statement.specs.Calls.{unlessRefused, runMatrix, runTable, growMatrix, growTable, writeTree, treeWritten, readTree, sumPaths, pathsWritten, findRecord, writeRecord, recordWritten, stepAt, runRecord};
+ghost use Rattle.statement.specs.Calls.{unlessRefused, runMatrix, runTable, growMatrix, growTable, writeTree, treeWritten, readTree, measureNewick, newickMeasured, writeNewick, newickWritten, sumPaths, pathsWritten, findRecord, writeRecord, recordWritten, stepAt, runRecord};
 ghost use Rattle.record_find.specs.Taken.{kindsTaken};
 ghost use Rattle.record_find.specs.Stretch.{bodyStart, bodyLength};
-ghost use Rattle.splitbox.specs.Face.{replyOf, Shares, HandedBack, GrownBack, ReadBack, Walked};
+ghost use Rattle.newick_meaning.specs.Parse.{readNewick};
+ghost use Rattle.splitbox.specs.Face.{replyOf, Shares, HandedBack, GrownBack, ReadBack, nearly, TextBack, Walked};
 
 // An outcome as one number.
 fn reply(said: Outcome) -> u64
@@ -274,6 +275,83 @@ pub extern "C" fn splitbox_read_tree(
 {
     let read = tree_read::read_tree(n, body);
     let outcome = read.outcome;
+    let list = read.list;
+    let g = Growth {
+        outcome,
+        list,
+        trials: 0,
+    };
+    let mut unused: u64 = 0;
+    hand_back(g, taxa, rows, clusters, weights, &mut unused)
+}
+
+// The length of the Newick text of a list with k = n.
+#[no_mangle]
+pub extern "C" fn splitbox_newick_length(
+    n: usize,
+    taxa: usize,
+    rows: usize,
+    clusters: &[u64; 125],
+    weights: &[u32; 125],
+    length: &mut usize,
+) -> u64
+    ensures { λ r. ⌜ r ≡ replyOf (measureNewick n (listIn taxa rows (now (clusters .entry)) (now (weights .entry)))) ⌝ }
+    ensures { λ _. ⌜ now (length .exit) ≡ newickMeasured n (listIn taxa rows (now (clusters .entry)) (now (weights .entry))) (now (length .entry)) ⌝ }
+{
+    let s = given(taxa, rows, clusters, weights);
+    reply(newick_write::newick_length(n, s, length))
+}
+
+// Its Newick text, into a lent slice.
+#[no_mangle]
+pub extern "C" fn splitbox_write_newick(
+    n: usize,
+    taxa: usize,
+    rows: usize,
+    clusters: &[u64; 125],
+    weights: &[u32; 125],
+    out: &mut [u8],
+) -> u64
+    ensures { λ r. ⌜ r ≡ replyOf (writeNewick n (listIn taxa rows (now (clusters .entry)) (now (weights .entry))) (now (out .entry))) ⌝ }
+    ensures { λ _. ⌜ now (out .exit) ≡ newickWritten n (listIn taxa rows (now (clusters .entry)) (now (weights .entry))) (now (out .entry)) ⌝ }
+{
+    let s = given(taxa, rows, clusters, weights);
+    reply(newick_write::write_newick(n, s, out))
+}
+
+// A place that fits a reply.
+fn near(said: Outcome) -> Outcome
+    ensures { λ r. ⌜ r ≡ nearly said ⌝ }
+{
+    match said {
+        Outcome::Done => said,
+        Outcome::Short => said,
+        Outcome::Refused(number, place) => {
+            if place < 281474976710655 {
+                return said;
+            }
+            Outcome::Refused(number, 281474976710655)
+        }
+    }
+}
+
+// A Newick text read.
+#[no_mangle]
+pub extern "C" fn splitbox_read_newick(
+    n: usize,
+    text: &[u8],
+    taxa: &mut usize,
+    rows: &mut usize,
+    clusters: &mut [u64; 125],
+    weights: &mut [u32; 125],
+) -> u64
+    ensures { λ r. ⌜ TextBack (readNewick n (now (text .entry))) r
+        (listIn (now (taxa .entry)) (now (rows .entry)) (now (clusters .entry)) (now (weights .entry)))
+        (listIn (now (taxa .exit)) (now (rows .exit)) (now (clusters .exit)) (now (weights .exit))) ⌝ }
+{
+    let read = newick_read::read_newick(n, text);
+    let said = read.outcome;
+    let outcome = near(said);
     let list = read.list;
     let g = Growth {
         outcome,

@@ -1,4 +1,4 @@
-// Lists of splits: made empty, a row pushed, the test that a given list is well-formed, and the checks of a list with k = n.
+// Lists of splits: made empty, the test that a given list is well-formed, and the checks of a list with k = n.
 // Document 01, "Growing and the allowance": the list has fixed room for 125 rows; well-formed.
 use statement::Splits;
 ghost use mathlib.Core.Path.{_≡_};
@@ -9,7 +9,6 @@ ghost use lib.ListN.{getD};
 ghost use Rattle.statement.specs.Cluster.{Split};
 ghost use Rattle.statement.specs.Lowest.{somewhere, nowhere};
 ghost use Rattle.statement.specs.Rows.{listOf, conflicts, fits, clashes, badRow, wellFormed};
-ghost use Rattle.splits_list.specs.Pushed.{pushed};
 ghost use Rattle.splits_list.specs.Whole.{wholeRefusal};
 
 // The empty list, over k taxa: zeros throughout.
@@ -22,19 +21,6 @@ pub fn empty(k: usize) -> Splits
         clusters: [0; 125],
         weights: [0; 125],
     }
-}
-
-// A list with one row more.
-pub fn push(s: Splits, c: u64, w: u32) -> Splits
-    requires { ⌜ s .rows < 125 ⌝ }
-    ensures { λ r. ⌜ r ≡ pushed s c w ⌝ }
-{
-    let at = s.rows;
-    let mut t = s;
-    t.clusters[at] = c;
-    t.weights[at] = w;
-    t.rows = at + 1;
-    t
 }
 
 // The most rows that a list over k taxa may have.

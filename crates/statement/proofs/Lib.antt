@@ -42,3 +42,4 @@ pub mod Walks
 pub mod WellFormed
 pub mod Unique
 pub mod Outputs
+pub mod NewickFigures

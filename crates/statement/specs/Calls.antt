@@ -1,5 +1,6 @@
 -- THE REPLY OF EACH CALL, on all inputs. Document 01: "Every callable entry states its reply and the later contents of lent slices on all inputs".
 use Prim.Native.Nat.{ℕ, _+_, _*_, _-_}
+use mathlib.Core.Path.{_≡_}
 use mathlib.Core.Bool.{cond}
 use mathlib.Core.List.{List, [], _∷_, _++_}
 use lib.Dec.{ltb, eqb}
@@ -17,7 +18,9 @@ use Rattle.statement.specs.Rows.{rowsOf, listOf}
 use Rattle.statement.specs.Growing.{byMatrix, byTable, grown, wholeRun}
 use Rattle.statement.specs.Tree.{treeOf, rowsOfTree, pathSums}
 use Rattle.statement.specs.Bytes.{fromBytes, treeBody, treeIn, treeLength}
-use Rattle.statement.specs.Refusals.{outcomeOf, listOff, matrixChecks, tableChecks, treeChecks, outputChecks}
+use Rattle.statement.specs.Sentence.{Parsed, Parses, rowsRead}
+use Rattle.statement.specs.NewickText.{newickOf, newickLength}
+use Rattle.statement.specs.Refusals.{outcomeOf, listOff, matrixChecks, tableChecks, treeChecks, outputChecks, listChecks, newickChecks}
 use Rattle.statement.specs.Record.{recordChecks, recordLength, lengthIn, recordOf, writingChecks, matrixKind, tableKind, kindIn, taxaIn, takenChecks, bodyIn}
 
 -- by the outcome of the checks: what a refusal leaves, else what the call gives
@@ -80,6 +83,32 @@ sumPaths n s out = outcomeOf (outputChecks n s (length out) (n * n))
 
 unfoldable pub pathsWritten : ℕ → Splits → List ℕ → List ℕ
 pathsWritten n s out = unlessRefused (sumPaths n s out) out (pathSums n (treeOf n (rowsOf s)))
+
+-- NEWICK TEXT (document 02, §2). The length of the text of a list with k = n, for the slice to lend: the outcome, and what a lent number then holds
+unfoldable pub measureNewick : ℕ → Splits → Outcome
+measureNewick n s = outcomeOf (listChecks n s)
+
+unfoldable pub newickMeasured : ℕ → Splits → ℕ → ℕ
+newickMeasured n s before = unlessRefused (measureNewick n s) before (newickLength n (rowsOf s))
+
+-- the text, written into a lent slice
+unfoldable pub writeNewick : ℕ → Splits → List ℕ → Outcome
+writeNewick n s out = outcomeOf (outputChecks n s (length out) (newickLength n (rowsOf s)))
+
+unfoldable pub newickWritten : ℕ → Splits → List ℕ → List ℕ
+newickWritten n s out = unlessRefused (writeNewick n s out) out (newickOf n (rowsOf s))
+
+-- a text read, by what it is to a reader. A refused reading hands back an empty list with k = 0
+abbrev pub readingOf : ℕ → Parsed → Reading
+readingOf n p =
+    let o = outcomeOf (newickChecks n p) in
+    unlessRefused o (refusedReading o) (record { outcome = Done; list = listOf n (rowsRead n p) })
+
+-- THE REPLY TO A TEXT is the reading of what the text is to a reader. Every text is one thing to the grammar, so there is one reply
+pub record NewickReply (n : ℕ) (text : List ℕ) (r : Reading) : Type 0 where
+  pub what : Parsed
+  pub parses : Parses text what
+  pub reply : r ≡ readingOf n what
 
 -- A RECORD found: its number and place (its body is bodyIn), and a record written into a lent slice
 unfoldable pub findRecord : List ℕ → Outcome

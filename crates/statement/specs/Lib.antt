@@ -6,6 +6,11 @@ pub mod Rows
 pub mod Growing
 pub mod Tree
 pub mod Bytes
+pub mod Decimal
+pub mod Grammar
+pub mod Sentence
+pub mod Moves
+pub mod NewickText
 pub mod Refusals
 pub mod Record
 pub mod Calls

@@ -1,10 +1,10 @@
 -- THE TABLE OF REFUSALS. Document 01, "Refusal numbers": for each number the condition and the place, then the order for each input.
 -- A new number is one more line here, and one more entry in the orders that give it.
-use Prim.Native.Nat.{ℕ, _+_, _*_, _-_, _/_, _%_, _<_}
+use Prim.Native.Nat.{ℕ, suc, _+_, _*_, _-_, _/_, _%_, _<_}
 use mathlib.Core.Path.{_≡_}
 use mathlib.Core.Logic.{_⊎_}
 use mathlib.Core.Bool.{Bool, true, false, cond, not, _&&_, _||_}
-use mathlib.Core.List.{List, [], _∷_}
+use mathlib.Core.List.{List, [], _∷_, _++_}
 use lib.Dec.{ltb, eqb}
 use lib.ListN.{length, getD}
 use Rattle.statement.specs.declared.Splits.{Splits}
@@ -16,6 +16,7 @@ use Rattle.statement.specs.Table.{choose}
 use Rattle.statement.specs.Rows.{wellFormed}
 use Rattle.statement.specs.Tree.{Tree, root, onWalk, clusterOf}
 use Rattle.statement.specs.Bytes.{treeIn, treeLength}
+use Rattle.statement.specs.Sentence.{Children, Parsed, outside, sentence, Leaf, Edge, among, taxaOf, splitMade, clustersOf, leavesOf, edgesOf, semicolonAt}
 
 -- what an outcome is in document 01's table: its number, 0 where nothing is refused, and its place
 abbrev pub numberOf : Outcome → ℕ
@@ -148,6 +149,49 @@ kindOff taken = single 17 (not taken)
 abbrev pub sumOff : ℕ → ℕ → Check
 sumOff pad sum = single 18 (not (eqb pad 0) || not (eqb sum 0))
 
+-- OF A TEXT (document 02, §2): a line whose bad places are these
+abbrev pub badAt : ℕ → List ℕ → ℕ → Check
+badAt number bad places = record { number = number; places = places; bad = λ i. among i bad }
+
+-- 19: text outside the grammar or too deep, at its first bad byte or, cut short, its end
+abbrev pub grammarOff : ℕ → Check
+grammarOff k = badAt 19 (k ∷ []) (suc k)
+
+-- 20: a taxon repeated or not below n, at the first such, else one missing, at the semicolon. The leaves that are so, where these taxa came before
+unfoldable pub strays : ℕ → List ℕ → List Leaf → List ℕ
+strays n before [] = []
+strays n before (l ∷ ls) =
+    cond (not (ltb (l .taxon) n) || among (l .taxon) before) (l .place ∷ strays n (l .taxon ∷ before) ls) (strays n (l .taxon ∷ before) ls)
+
+unfoldable pub missing : ℕ → Children → List ℕ
+missing n f = cond (somewhere (λ x. not (among x (taxaOf f))) n) (semicolonAt f ∷ []) []
+
+abbrev pub taxonOff : ℕ → Children → Check
+taxonOff n f = badAt 20 (strays n [] (leavesOf f) ++ missing n f) (suc (semicolonAt f))
+
+-- 14, 12, 13 of the edges that are kept, each at the first byte of the earliest such edge's weight. The places of those that pass a test
+unfoldable pub placesOf : (Edge → Bool) → List Edge → List ℕ
+placesOf test [] = []
+placesOf test (e ∷ es) = cond (test e) (e .place ∷ placesOf test es) (placesOf test es)
+
+-- 14: weight above 2,000,000
+abbrev pub heavyOff : Children → Check
+heavyOff f = badAt 14 (placesOf (λ e. ltb weightLimit (e .weight)) (edgesOf f)) (suc (semicolonAt f))
+
+-- 12: no taxon beyond the edge
+abbrev pub bareOff : ℕ → Children → Check
+bareOff n f = badAt 12 (placesOf (λ e. eqb (splitMade n e) 0) (edgesOf f)) (suc (semicolonAt f))
+
+-- 13: another edge makes the same split, before it or after it
+unfoldable pub twins : ℕ → List ℕ → List Edge → List ℕ
+twins n before [] = []
+twins n before (e ∷ es) =
+    cond (among (splitMade n e) before || among (splitMade n e) (clustersOf n es)) (e .place ∷ twins n (splitMade n e ∷ before) es)
+    (twins n (splitMade n e ∷ before) es)
+
+abbrev pub splitOff : ℕ → Children → Check
+splitOff n f = badAt 13 (twins n [] (edgesOf f)) (suc (semicolonAt f))
+
 -- THE ORDERS
 
 -- the matrix's own checks, and those of a matrix with its n
@@ -171,3 +215,18 @@ treeChecks n body = taxaOff n ∷ lengthOff (treeFits n (length body)) ∷ verte
 -- a list with k = n, and a lent output slice: 7 last in all
 abbrev pub outputChecks : ℕ → Splits → ℕ → ℕ → List Check
 outputChecks n s len wanted = taxaOff n ∷ wholeListOff n s ∷ outputOff len wanted ∷ []
+
+-- a text: 19; or, of a sentence, 20, then 14, 12, 13
+abbrev pub sentenceChecks : ℕ → Children → List Check
+sentenceChecks n f = taxonOff n f ∷ heavyOff f ∷ bareOff n f ∷ splitOff n f ∷ []
+
+abbrev pub textChecks : ℕ → Parsed → List Check
+textChecks n (outside k) = grammarOff k ∷ []
+textChecks n (sentence f) = sentenceChecks n f
+
+abbrev pub newickChecks : ℕ → Parsed → List Check
+newickChecks n p = taxaOff n ∷ textChecks n p
+
+-- a list with k = n alone
+abbrev pub listChecks : ℕ → Splits → List Check
+listChecks n s = taxaOff n ∷ wholeListOff n s ∷ []

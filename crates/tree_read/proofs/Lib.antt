@@ -2,10 +2,8 @@ pub mod Counting
 pub mod Reaches
 pub mod Passed
 pub mod Clusters
-pub mod Sorting
 pub mod Rows
 pub mod Marking
-pub mod Selection
 pub mod Twins
 pub mod Replies
 pub mod Renumbered

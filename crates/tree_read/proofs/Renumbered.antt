@@ -22,13 +22,13 @@ use Rattle.statement.proofs.Tests.{same-is, both-is, none-is, unless-is, fails-
 use Rattle.statement.proofs.Walks.{map-at, numbers-length}
 use Rattle.tree_check.proofs.Search.{found, missed}
 use Rattle.tree_read.specs.Accepted.{Leads, AcceptedTree, homeIn}
-use Rattle.tree_read.specs.Selected.{sortedOf}
+use Rattle.row_sort.specs.Sorted.{sortedOf}
 use Rattle.tree_read.specs.SameTree.{SameTree, rowPlace}
 use Rattle.tree_read.proofs.Passed.{tree-accepted}
 use Rattle.tree_read.proofs.Reaches.{walk-root, walk-add, stays}
 use Rattle.tree_read.proofs.Clusters.{ends, cluster-in, cluster-split, part-above, shared}
 use Rattle.tree_read.proofs.Rows.{edge, rows-are, tree-edges}
-use Rattle.tree_read.proofs.Sorting.{sorted-count, edge-at, row-of, cluster-at, ascends}
+use Rattle.row_sort.proofs.Sorting.{sorted-count, edge-at, row-of, cluster-at, ascends}
 
 -- a group is strictly in another
 pub Strictly : ℕ → ℕ → ℕ → Type 0

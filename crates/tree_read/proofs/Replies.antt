@@ -1,7 +1,7 @@
 -- The ways out of a reading: what the checks found, as its reply. Assumes nothing.
 use Prim.Native.Nat.{ℕ, _+_, _≤_, _<_}
 use native.Mathlib.Omega.{arith}
-use mathlib.Core.Path.{_≡_, refl, sym, _∙_, ap, ap₂, subst}
+use mathlib.Core.Path.{_≡_, refl, sym, _∙_, ap, ap₂}
 use mathlib.Core.Logic.{_⊎_, inl, inr}
 use mathlib.Core.Bool.{Bool, not, _&&_}
 use mathlib.Core.List.{List, [], _∷_, _++_}
@@ -11,7 +11,6 @@ use lib.Seq.{length-take-le}
 use Rattle.statement.specs.declared.Splits.{Splits}
 use Rattle.statement.specs.declared.Reading.{Reading}
 use Rattle.statement.specs.declared.Outcome.the-variants.{Done, Refused}
-use Rattle.statement.specs.Cluster.{Split}
 use Rattle.statement.specs.Lowest.{lowest, somewhere}
 use Rattle.statement.specs.Rows.{row, listOf}
 use Rattle.statement.specs.Tree.{Tree, root, clusterOf, rowsOfTree}
@@ -23,11 +22,11 @@ use Rattle.statement.proofs.Refused.{passes, fails, either, given-refused, refu
 use Rattle.tree_body.proofs.Body.{root-is}
 use Rattle.tree_check.specs.Parts.{placed, firstChecks}
 use Rattle.tree_check.proofs.Walked.{same-cluster}
-use Rattle.tree_read.specs.Columns.{Clusters}
-use Rattle.tree_read.specs.Selected.{Edges, rowAt, sortedOf}
-use Rattle.tree_read.proofs.Passed.{Shape, shape-of, tree-accepted}
-use Rattle.tree_read.proofs.Rows.{edge, rows-are, tree-edges}
-use Rattle.tree_read.proofs.Sorting.{sorted-same}
+use Rattle.tree_read.specs.Columns.{Weights, Clusters}
+use Rattle.row_sort.specs.Sorted.{rowAt, sortedOf}
+use Rattle.tree_read.proofs.Passed.{Shape, shape-of}
+use Rattle.tree_read.proofs.Rows.{edge, rows-are}
+use Rattle.row_sort.proofs.Sorting.{sorted-same}
 use Rattle.tree_read.proofs.Twins.{twinned}
 
 -- checks, and others after them
@@ -166,25 +165,17 @@ module _ (n : ℕ) (body : List ℕ) (m : ℕ) (cs : List ℕ) (k : Read n body 
     all-passed : AllPassed (treeChecks n body)
     all-passed = all-after (firstChecks n body) (lastChecks n body) (k .passed) (full, (single, tt))
 
-    pub cluster-edges : Edges n m (λ v. getD cs v 0)
-    cluster-edges =
-        let e = tree-edges n (treeIn n body) (tree-accepted n body all-passed) in
-        record {
-          splits = λ v l. subst (Split n) (sym (clusters-are v l)) (e .splits v (omega (arith, edges)));
-          apart = λ u v lu lv q. e .apart u v (omega (arith, edges)) (omega (arith, edges)) (sym (clusters-are u lu) ∙ q ∙ clusters-are v lv);
-        }
-
-    module _ (bytes : List ℕ) (part : bytes ≡ drop (1 + m + n) body) where
+    module _ (bytes ws : List ℕ) (part : bytes ≡ drop (1 + m + n) body) (weighed : Weights bytes m ws) where
       weights-are : fromBytes bytes ≡ treeIn n body .weights
       unfolding treeIn
       weights-are = ap fromBytes (part ∙ ap (λ (j : ℕ). drop (1 + j + n) body) (k .first))
 
-      rows-read : sortedOf (rowAt cs (fromBytes bytes)) m ≡ rowsOfTree n (treeIn n body)
+      rows-read : sortedOf (rowAt cs ws) m ≡ rowsOfTree n (treeIn n body)
       rows-read =
-          sorted-same (rowAt cs (fromBytes bytes)) (edge n (treeIn n body)) m
-          (λ v l. ap₂ (λ (c : ℕ) (ws : List ℕ). row c (getD ws v 0)) (clusters-are v l) weights-are)
+          sorted-same (rowAt cs ws) (edge n (treeIn n body)) m
+          (λ v l. ap₂ row (clusters-are v l) (weighed v l ∙ ap (λ (us : List ℕ). getD us v 0) weights-are))
           ∙ ap (sortedOf (edge n (treeIn n body))) (sym edges) ∙ sym (rows-are n (treeIn n body))
 
-      pub accepted-reply : (list : Splits) → list ≡ listOf n (sortedOf (rowAt cs (fromBytes bytes)) m) → doneReply list ≡ readTree n body
+      pub accepted-reply : (list : Splits) → list ≡ listOf n (sortedOf (rowAt cs ws) m) → doneReply list ≡ readTree n body
       unfolding readTree
       accepted-reply list e = rw (passed-done (treeChecks n body) all-passed) (ap doneReply (e ∙ ap (listOf n) rows-read))

@@ -11,10 +11,10 @@ use Rattle.statement.specs.Bytes.{treeIn}
 use Rattle.statement.specs.Refusals.{AllPassed, treeChecks}
 use Rattle.statement.proofs.Enlarged.{WellRows}
 use Rattle.tree_read.specs.Accepted.{AcceptedTree, weightAt}
-use Rattle.tree_read.specs.Selected.{Edges, sortedOf}
+use Rattle.row_sort.specs.Sorted.{Edges, sortedOf}
 use Rattle.tree_read.proofs.Passed.{tree-accepted}
 use Rattle.tree_read.proofs.Clusters.{cluster-split, no-conflict}
-use Rattle.tree_read.proofs.Sorting.{mem-held, edge-of, sorted-up}
+use Rattle.row_sort.proofs.Sorting.{mem-held, edge-of, sorted-up}
 
 -- the row of a vertex's edge
 abbrev pub edge : ℕ → Tree → ℕ → Row

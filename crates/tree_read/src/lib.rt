@@ -1,10 +1,10 @@
 // A tree read from its body, in any numbering of its vertices: the clusters of its edges, the checks of them, and the list of its rows.
 // Document 01, "The tree"; "Refusal numbers", 12 and 13.
-use splits_list::empty;
-use splits_list::push;
+use bits::single;
+use row_sort::refused;
+use row_sort::sorted;
 use statement::Outcome;
 use statement::Reading;
-use statement::Splits;
 use tree_body::homes_in;
 use tree_body::links_in;
 use tree_body::vertex;
@@ -17,23 +17,12 @@ ghost use mathlib.Core.Bool.{not, _&&_};
 ghost use Prim.Native.Nat.{ℕ, suc, _+_, _*_, _^_, _<_, _≤_};
 ghost use lib.Dec.{eqb};
 ghost use lib.ListN.{length, getD};
-ghost use Rattle.statement.specs.declared.Outcome.the-variants.{Done, Refused};
+ghost use Rattle.statement.specs.declared.Outcome.the-variants.{Done};
 ghost use Rattle.statement.specs.Lowest.{lowest, somewhere};
-ghost use Rattle.statement.specs.Rows.{listOf};
-ghost use Rattle.statement.specs.Bytes.{fromBytes};
 ghost use Rattle.statement.specs.Refusals.{outcomeOf};
-ghost use Rattle.statement.specs.Calls.{emptyList, readTree};
+ghost use Rattle.statement.specs.Calls.{readTree};
 ghost use Rattle.tree_check.specs.Parts.{firstChecks};
-ghost use Rattle.tree_read.specs.Columns.{Marked, Clusters};
-ghost use Rattle.tree_read.specs.Selected.{Edges, Next, rowAt, sortedOf};
-
-// The group of the taxon i alone.
-fn one_at(i: usize) -> u64
-    requires { ⌜ i < 64 ⌝ }
-    ensures { λ r. ⌜ r ≡ 2 ^ i ⌝ }
-{
-    1u64 << i
-}
+ghost use Rattle.tree_read.specs.Columns.{Marked, Clusters, Weights};
 
 // A taxon's group added to the cluster of each edge on the walk up from its home, once.
 fn mark(links: &[u8], clusters: [u64; 125], home: usize, group: u64) -> [u64; 125]
@@ -65,7 +54,7 @@ fn clusters_of(links: &[u8], homes: &[u8]) -> [u64; 125]
     let mut clusters = [0u64; 125];
     let mut i: usize = 0;
     while i < homes.len() {
-        let next = mark(links, clusters, vertex(homes[i]), one_at(i));
+        let next = mark(links, clusters, vertex(homes[i]), single(i));
         clusters = next;
         i += 1;
     }
@@ -119,52 +108,18 @@ fn lowest_twin(m: usize, clusters: &[u64; 125]) -> usize
     v
 }
 
-// The edge with the least cluster above `low`; m where there is none.
-fn next_edge(m: usize, clusters: &[u64; 125], low: u64) -> usize
-    requires { ⌜ m ≤ 125 ⌝ }
-    ensures { λ r. ⌜ Next (now (clusters .entry)) m low m r ⌝ }
+// The weights of m edges, from their bytes.
+fn weights_of(m: usize, bytes: &[u8]) -> [u32; 125]
+    requires { ⌜ (m ≤ 125) × (4 * m ≤ length (now bytes)) ⌝ }
+    ensures { λ r. ⌜ Weights (now (bytes .entry)) m r ⌝ }
 {
-    let mut best = m;
+    let mut weights = [0u32; 125];
     let mut v: usize = 0;
     while v < m {
-        if low < clusters[v] {
-            if best == m {
-                best = v;
-            } else if clusters[v] < clusters[best] {
-                best = v;
-            }
-        }
+        weights[v] = word_at(bytes, 4 * v);
         v += 1;
     }
-    best
-}
-
-// The list of m edges, with the weights from their bytes: each next row is the one of the least cluster above the last.
-fn sorted(n: usize, m: usize, clusters: &[u64; 125], bytes: &[u8]) -> Splits
-    requires { ⌜ (m ≤ 125) × (4 * m ≤ length (now bytes)) × Edges n m (λ v. getD (now clusters) v 0) ⌝ }
-    ensures { λ r. ⌜ r ≡ listOf n (sortedOf (rowAt (now (clusters .entry)) (fromBytes (now (bytes .entry)))) m) ⌝ }
-{
-    let mut list = empty(n);
-    let mut low: u64 = 0;
-    let mut i: usize = 0;
-    while i < m {
-        let v = next_edge(m, clusters, low);
-        low = clusters[v];
-        let longer = push(list, low, word_at(bytes, 4 * v));
-        list = longer;
-        i += 1;
-    }
-    list
-}
-
-// A refused reading hands back an empty list with k = 0.
-fn refused(number: u8, place: usize) -> Reading
-    ensures { λ r. ⌜ r ≡ record { outcome = Refused number place; list = emptyList 0 } ⌝ }
-{
-    Reading {
-        outcome: Outcome::Refused(number, place),
-        list: empty(0),
-    }
+    weights
 }
 
 // Where the checks before the clusters are passed: those of the clusters, and the list.
@@ -182,9 +137,10 @@ fn read_checked(n: usize, body: &[u8]) -> Reading
     if twin < m {
         return refused(13, twin);
     }
+    let weights = weights_of(m, weights_in(n, m, body));
     Reading {
         outcome: Outcome::Done,
-        list: sorted(n, m, &clusters, weights_in(n, m, body)),
+        list: sorted(n, m, &clusters, &weights),
     }
 }
 

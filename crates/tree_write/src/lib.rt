@@ -25,7 +25,7 @@ fn strictly_in(a: u64, b: u64) -> bool
 }
 
 // The link of row i of m: the smallest cluster that strictly contains its own, which is the lowest, else m.
-fn link_of(n: usize, clusters: &[u64; 125], m: usize, i: usize) -> usize
+pub fn link_of(n: usize, clusters: &[u64; 125], m: usize, i: usize) -> usize
     requires { ⌜ (i < m) × (m ≤ 125) × (getD (now clusters) i 0 < 2 ^ n) ⌝ }
     ensures { λ r. ⌜ r ≤ m ⌝ }
     ensures { λ r. ⌜ ((rows : List Row) → ClustersOf rows (now (clusters .entry)) m → r ≡ linkOf n rows i) ⌝ }
@@ -42,7 +42,7 @@ fn link_of(n: usize, clusters: &[u64; 125], m: usize, i: usize) -> usize
 }
 
 // The home of a taxon: the smallest cluster that contains it, which is the lowest, else m.
-fn home_of(clusters: &[u64; 125], m: usize, taxon: usize) -> usize
+pub fn home_of(clusters: &[u64; 125], m: usize, taxon: usize) -> usize
     requires { ⌜ (m ≤ 125) × (taxon < 64) ⌝ }
     ensures { λ r. ⌜ r ≤ m ⌝ }
     ensures { λ r. ⌜ ((rows : List Row) → ClustersOf rows (now (clusters .entry)) m → r ≡ homeOf rows taxon) ⌝ }

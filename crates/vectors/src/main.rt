@@ -1,4 +1,5 @@
-// Records, sound and damaged, through the main job's own path (v); files of records, walked (w); typed numbers, packed (t); records in plain words (s).
+// Records, sound and damaged, through the main job's own path (v); files of records, walked (w); typed numbers, packed (t); records in plain words (s);
+// Newick texts to records (n), and records to Newick texts (o).
 // The files in data/ and the expected output are made by tests/make_vectors.py from the documents alone.
 use statement::Step;
 
@@ -35,6 +36,20 @@ fn steps(file: &[u8]) {
     }
 }
 
+// What `from_newick` says of the text behind the first line, which has the number of taxa, and then `more` for a text that goes on. Its record is
+// described.
+fn from_newick(file: &[u8]) {
+    let end = lines::find(file, 0, b'\n');
+    let start = lines::behind(file, end);
+    let n = numerals::number_at(file, 0);
+    let more = newick_hints::byte_before(file, end) == b'e';
+    let mut out = io::buffer();
+    let len = newick_in::answer(n as usize, &file[start..], more, &mut out);
+    if len > 0 {
+        showing::describe(&out[..len]);
+    }
+}
+
 // What is asked of a file's bytes.
 fn answer(asked: u8, bytes: &[u8]) {
     if asked == b'v' {
@@ -43,6 +58,10 @@ fn answer(asked: u8, bytes: &[u8]) {
         packing::answer(bytes);
     } else if asked == b's' {
         showing::describe(bytes);
+    } else if asked == b'n' {
+        from_newick(bytes);
+    } else if asked == b'o' {
+        newick_out::answer(bytes);
     } else {
         steps(bytes);
     }
@@ -73,4 +92,6 @@ fn main() {
     files(b'w', 3);
     files(b't', 19);
     files(b's', 20);
+    files(b'n', 48);
+    files(b'o', 20);
 }

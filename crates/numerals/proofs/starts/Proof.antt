@@ -2,7 +2,8 @@
 use mathlib.Core.Path.{_≡_, sym, _∙_, ap}
 use borrow.Author.Needs.{needs}
 use borrow.Author.Tests.{eq-eqb, ne-eqb, not-true, not-false}
-use Rattle.numerals.specs.Numerals.{digit, digitAt}
+use Rattle.statement.specs.Decimal.{digit}
+use Rattle.numerals.specs.Numerals.{digitAt}
 use Rattle.numerals.proofs.starts.Statement.{statement}
 use Rattle.numerals.proofs.starts.Tie as tie
 

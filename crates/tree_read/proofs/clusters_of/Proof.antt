@@ -29,15 +29,15 @@ shared-slice-read-vertex c = search needs
 vertex-requires : tie.Need-vertex-requires Inv-loop μ-loop
 vertex-requires c κs = search needs
 
-one-at-requires : tie.Need-one-at-requires Inv-loop μ-loop
-one-at-requires c κs = search needs
+single-requires : tie.Need-single-requires Inv-loop μ-loop
+single-requires c κs = search needs
 
 mark-requires : tie.Need-mark-requires Inv-loop μ-loop
 mark-requires c κs =
     let l = c .before .before .before .before in
     let a = l .before .before .before .args in
     let t = placed (a .links .now) (a .homes .now) in
-    let one = c .one-at .ensures in (
+    let one = c .single .ensures in (
       (omega arith, l .loop .inv .1, omega (arith, pow-mono {i = l .loop .i} {j = 63} (omega arith))),
       λ v h. omega (arith, l .loop .inv .2 v h, cluster-below t v (l .loop .i)),
     )
@@ -57,7 +57,7 @@ loop-again c =
       marked .long,
       λ v h.
           cluster-more (a .links .now) (a .homes .now) v (l .loop .i) _ _ _ _ (l .loop .inv .2 v h) (c .before .before .vertex .ensures)
-          (c .before .one-at .ensures) (marked .each v h),
+          (c .before .single .ensures) (marked .each v h),
     )
 
 returns : tie.Need-returns Inv-loop μ-loop
@@ -76,7 +76,7 @@ clusters-of-spec =
     loop-holds
     shared-slice-read-vertex
     vertex-requires
-    one-at-requires
+    single-requires
     mark-requires
     add-i
     loop-less

@@ -8,7 +8,7 @@ use Rattle.statement.specs.Bytes.{treeIn}
 use Rattle.statement.specs.Refusals.{Passed, AllPassed, edgeOff, twinOff}
 use Rattle.statement.proofs.Refused.{accepted-exactly}
 use Rattle.tree_check.specs.Parts.{firstChecks}
-use Rattle.tree_read.proofs.Replies.{Room, room-of, Read, bare-refused, none-bare, twin-refused, none-twin, cluster-edges, accepted-reply}
+use Rattle.tree_read.proofs.Replies.{Room, room-of, Read, bare-refused, none-bare, twin-refused, none-twin, accepted-reply}
 use Rattle.tree_read.proofs.read_checked.Statement.{statement}
 use Rattle.tree_read.proofs.read_checked.Tie as tie
 
@@ -105,25 +105,24 @@ single c =
     none-twin (a .n) (a .body .now) _ _ (clusters-read k) _ (c .before .lowest-twin .ensures) (c .if2 .left)
 
 weights-in-requires : tie.Need-weights-in-requires
-weights-in-requires c κs = omega (arith, room (read-m (made (past12 (c .before)))))
+weights-in-requires c κs = omega (arith, room (read-m (made (past12 c))))
+
+weights-of-requires : tie.Need-weights-of-requires
+weights-of-requires c κs =
+    let v = read-m (made (past12 (c .before))) in
+    let a = start v .args in
+    (omega (arith, room v), omega (arith, room v, ap length (c .weights-in .ensures), length-drop (1 + v .vertex .result + a .n) (a .body .now)))
 
 sorted-requires : tie.Need-sorted-requires
-sorted-requires c κs =
-    let s = c .before .before in
-    let k = made (past12 s) in
-    let v = read-m k in
-    let a = start v .args in (
-      omega (arith, room v),
-      omega (arith, room v, ap length (c .weights-in .ensures), length-drop (1 + v .vertex .result + a .n) (a .body .now)),
-      cluster-edges (a .n) (a .body .now) _ _ (clusters-read k) (full (past12 s)) (single s),
-    )
+sorted-requires c κs = omega (arith, room (read-m (made (past12 (c .before .before .before .before)))))
 
 returns-3 : tie.Need-returns-3
 returns-3 c =
-    let s = c .before .before .before in
+    let w = c .before .before .before in
+    let s = w .before .before in
     let k = made (past12 s) in
     let a = start (read-m k) .args in
-    accepted-reply (a .n) (a .body .now) _ _ (clusters-read k) (full (past12 s)) (single s) _ (c .before .weights-in .ensures) _ (c .sorted .ensures)
+    accepted-reply (a .n) (a .body .now) _ _ (clusters-read k) (full (past12 s)) (single s) _ (w .weights-of .result) (w .before .weights-in .ensures) (w .weights-of .ensures) _ (c .sorted .ensures)
 
 pub read-checked-spec : {M : Type 1} → statement M
 read-checked-spec =
@@ -141,5 +140,6 @@ read-checked-spec =
     refused-requires-2
     returns-2
     weights-in-requires
+    weights-of-requires
     sorted-requires
     returns-3)

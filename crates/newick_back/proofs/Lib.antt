@@ -1,0 +1,10 @@
+pub mod Joined
+pub mod Steps
+pub mod Written
+pub mod Counts
+pub mod Below
+pub mod Sorted
+pub mod Edges
+pub mod Back
+pub mod Said
+pub mod Round

@@ -1,0 +1,9 @@
+pub mod Tokens
+pub mod Groups
+pub mod Taxa
+pub mod Play
+pub mod Whole
+pub mod Edges
+pub mod Rows
+pub mod Once
+pub mod Many
