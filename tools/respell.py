@@ -14,7 +14,7 @@ import re
 import sys
 
 TOKEN = re.compile(r"(?<![\w'\-])([^\W\d_][\w']*(?:-[\w']+)*)")
-USE = re.compile(r"^\s*(?:pub )?(?:ghost )?use ([\w.'·-]+)(?:\.\{([^}]*)\})?", re.M)
+USE = re.compile(r"^\s*(?:pub )?(?:ghost )?use ((?:[\w'·+-]+\.)*[\w'·+-]+)(?:\.\{([^}]*)\})?", re.M)
 CLAUSE = re.compile(r"\b(?:requires|ensures|ghost)\b[^{};]*\{")
 KIT_ROOTS = {"std", "io", "libc", "os", "check", "borrow", "seplogic", "core"}
 

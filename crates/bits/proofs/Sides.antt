@@ -2,8 +2,8 @@
 use Prim.Native.Nat.{ℕ, zero, suc, ◌+◌, ◌-◌, ◌/◌, ◌%◌, ◌^◌, ◌≤◌, ◌<◌}
 use native.Mathlib.Omega.{arith}
 use native.Mathlib.Decide.{dec_lt}
-use native.Mathlib.Numerals.{add_one}
-use native.Mathlib.Nat.{mod_lt, div_div_eq_div_mul, pow_suc}
+use native.Mathlib.Numerals.{add-one}
+use native.Mathlib.Nat.{mod-lt, div-div-eq-div-mul, pow-suc}
 use mathlib.Core.Path.{◌≡◌, refl, sym, ◌∙◌, ap, subst}
 use mathlib.Core.Logic.{◌≢◌}
 use mathlib.Core.Bool.{Bool, true, false, cond}
@@ -12,8 +12,8 @@ use lib.Bits.{bit_and, and_mask}
 use lib.Pow.{pow_pos}
 use lib.Dec.{eqb}
 use lib.ListN.{length, get_or, set}
-use lib.Seq.{get_or_set_same, get_or_set_other}
-use borrow.Author.Tests.{eq_eqb, ne_eqb}
+use lib.Seq.{get_or-set_same, get_or-set_other}
+use borrow.Author.Tests.{eq-eqb, ne_eqb}
 use Rattle.statement.specs.Cluster.{bit}
 use Rattle.statement.proofs.Bits.{bit_zero, bit_suc, bit_lt, bit_mod}
 use Rattle.statement.proofs.Parts.{on_side, off_side}
@@ -24,7 +24,7 @@ pub rest_none : (c : ℕ) → c ≡ c / 2 ^ 0
 rest_none c = omega arith
 
 pub rest_turn : (c m : ℕ) {rest : ℕ} → rest ≡ c / 2 ^ m → rest / 2 ≡ c / 2 ^ (m + 1)
-rest_turn c m e = ap (λ (r : ℕ). r / 2) e ∙ div_div_eq_div_mul c (2 ^ m) 2 ∙ ap (λ (p : ℕ). c / p) (sym (pow_suc 2 m) ∙ ap (λ (i : ℕ). 2 ^ i) (sym (add_one m)))
+rest_turn c m e = ap (λ (r : ℕ). r / 2) e ∙ div-div-eq-div-mul c (2 ^ m) 2 ∙ ap (λ (p : ℕ). c / p) (sym (pow-suc 2 m) ∙ ap (λ (i : ℕ). 2 ^ i) (sym (add-one m)))
 
 pub rest_side : (c a m : ℕ) {rest : ℕ} → rest ≡ c / 2 ^ m → eqb (rest % 2) (bit c a) ≡ eqb (bit c m) (bit c a)
 rest_side c a m e = ap (λ (r : ℕ). eqb (r % 2) (bit c a)) e
@@ -36,7 +36,7 @@ members_none a c taxa =
 
 module _ (a c m : ℕ) (taxa : List ℕ) (count : ℕ) (h : Members m a c taxa count) (room : count < length taxa) where
   kept : (j : ℕ) → j < count → get_or (set taxa count m) j 0 ≡ get_or taxa j 0
-  kept j l = get_or_set_other taxa count j m 0 (λ e. absurd (omega arith))
+  kept j l = get_or-set_other taxa count j m 0 (λ e. absurd (omega arith))
 
   old : (j : ℕ) → j < count → (get_or (set taxa count m) j 0 < m + 1) × (bit c (get_or (set taxa count m) j 0) ≢ bit c a)
   old j l = rw (kept j l) (omega (arith, (h.each j l).0), (h.each j l).1)
@@ -61,7 +61,7 @@ module _ (a c m : ℕ) (taxa : List ℕ) (count : ℕ) (h : Members m a c taxa c
   members_off e = record { few = omega (arith, h.few); each = each; all = all; up = up }
     where
       last : get_or (set taxa count m) count 0 ≡ m
-      last = get_or_set_same taxa count m 0 room
+      last = get_or-set_same taxa count m 0 room
 
       each : (j : ℕ) → j < count + 1 → (get_or (set taxa count m) j 0 < m + 1) × (bit c (get_or (set taxa count m) j 0) ≢ bit c a)
       each j l = go (dec_lt j count)
@@ -107,7 +107,7 @@ module _ (a c one : ℕ) (e : one ≡ 2 ^ a) where
   masked = ap (λ (n : ℕ). bit_and c (n - 1)) e ∙ and_mask c a
 
   pub low_below : bit_and c (one - 1) < 2 ^ a
-  low_below = rw masked (mod_lt c (pow_pos a))
+  low_below = rw masked (mod-lt c (pow_pos a))
 
   low_bit : (u : ℕ) → u < a → bit (bit_and c (one - 1)) u ≡ bit c u
   low_bit u l = ap (λ (n : ℕ). bit n u) masked ∙ bit_mod c a u l
@@ -117,13 +117,13 @@ module _ (a c one : ℕ) (e : one ≡ 2 ^ a) where
     where
       go : Dec (bit c u < 1) → bit c u ≡ cond (eqb (bit c u) (bit c a)) 1 0
       go (yes q) = rw (ne_eqb (bit c u) (bit c a) (λ f. absurd (omega arith))) (omega arith)
-      go (no q) = rw (eq_eqb (bit c u) (bit c a) (omega (arith, bit_lt c u))) (omega (arith, bit_lt c u))
+      go (no q) = rw (eq-eqb (bit c u) (bit c a) (omega (arith, bit_lt c u))) (omega (arith, bit_lt c u))
 
   other_bit : (u : ℕ) → bit c a ≡ 0 → 1 - bit c u ≡ cond (eqb (bit c u) (bit c a)) 1 0
   other_bit u h = go (dec_lt (bit c u) 1)
     where
       go : Dec (bit c u < 1) → 1 - bit c u ≡ cond (eqb (bit c u) (bit c a)) 1 0
-      go (yes q) = rw (eq_eqb (bit c u) (bit c a) (omega arith)) (omega arith)
+      go (yes q) = rw (eq-eqb (bit c u) (bit c a) (omega arith)) (omega arith)
       go (no q) = rw (ne_eqb (bit c u) (bit c a) (λ f. absurd (omega arith))) (omega (arith, bit_lt c u))
 
   pub side_in : bit c a ≡ 1 → Side a c (bit_and c (one - 1))

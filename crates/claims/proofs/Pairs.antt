@@ -4,7 +4,7 @@ use Prim.Native.Nat.{ℕ, zero, suc, ◌+◌, ◌*◌}
 use native.Mathlib.Omega.{arith}
 use mathlib.Core.Path.{◌≡◌, refl, sym, ◌∙◌, ap}
 use mathlib.Core.List.{List}
-use lib.ListN.{get_or, replicate, length_replicate}
+use lib.ListN.{get_or, replicate, length-replicate}
 use Rattle.statement.specs.declared.Splits.{Splits}
 use Rattle.statement.specs.declared.Growth.{Growth}
 use Rattle.statement.specs.Matrix.{distance, weight_limit, AcceptedMatrix, Triangle}
@@ -47,7 +47,7 @@ zeros_accepted m e =
     record {
       two = omega arith;
       few = omega arith;
-      size = length_replicate {A = ℕ} m 0 ∙ e;
+      size = length-replicate {A = ℕ} m 0 ∙ e;
       diagonal = λ i l. zero_at_law m (i * 64 + i);
       limit = λ i j li lj. omega (arith, zero_at_law m (i * 64 + j));
       same = λ i j li lj. zero_at_law m (i * 64 + j) ∙ sym (zero_at_law m (j * 64 + i));

@@ -4,7 +4,7 @@ use native.Mathlib.Omega.{arith}
 use mathlib.Core.Path.{◌≡◌, refl, sym, ap, subst}
 use mathlib.Core.Bool.{true}
 use mathlib.Core.List.{List}
-use lib.ListN.{length, replicate, length_append, length_map, length_replicate}
+use lib.ListN.{length, replicate, length-append, length-map, length-replicate}
 use Rattle.statement.specs.declared.Splits.{Splits}
 use Rattle.statement.specs.declared.Reading.{Reading}
 use Rattle.statement.specs.declared.Outcome.TheVariants.{Done}
@@ -35,7 +35,7 @@ reads_back = write_read
 -- filled up to 125 places
 filled_length : (xs : List ℕ) → length xs ≤ 125 → length (filled xs) ≡ 125
 unfolding filled
-filled_length xs h = omega (arith, length_append xs (replicate (125 - length xs) 0), length_replicate {A = ℕ} (125 - length xs) 0)
+filled_length xs h = omega (arith, length-append xs (replicate (125 - length xs) 0), length-replicate {A = ℕ} (125 - length xs) 0)
 
 abbrev tree_rows : ℕ → List ℕ → List Row
 tree_rows n body = rows_of_tree n (tree_in n body)
@@ -61,8 +61,8 @@ module _ (n : ℕ) (body : List ℕ) (passed : AllPassed (tree_checks n body)) w
   unfolding list_of
   tested =
       (well_formed_is weight_limit n (list_of n (tree_rows n body))
-      (filled_length (clusters (tree_rows n body)) (omega (arith, length_map (tree_rows n body) (λ r. r.cluster), count, few)))
-      (filled_length (weights (tree_rows n body)) (omega (arith, length_map (tree_rows n body) (λ r. r.weight), count, few))) few.1).1 formed
+      (filled_length (clusters (tree_rows n body)) (omega (arith, length-map (tree_rows n body) (λ r. r.cluster), count, few)))
+      (filled_length (weights (tree_rows n body)) (omega (arith, length-map (tree_rows n body) (λ r. r.weight), count, few))) few.1).1 formed
 
   -- writing that list, where the slice has the length
   module _ (out : List ℕ) (size : length out ≡ tree_length n (length (tree_rows n body))) where

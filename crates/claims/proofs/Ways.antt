@@ -5,7 +5,7 @@ use mathlib.Core.Path.{◌≡◌, refl, sym, ◌∙◌, ap}
 use mathlib.Core.Logic.{◌≢◌, ◌↔◌, ◌⊎◌, inl, inr}
 use mathlib.Core.Bool.{Bool, true, false, cond, not, beq, true≢false}
 use lib.Dec.{eqb}
-use borrow.Author.Tests.{eq_eqb, ne_eqb}
+use borrow.Author.Tests.{eq-eqb, ne_eqb}
 use Rattle.statement.specs.Cluster.{bit, In, Out, Split, Pair}
 use Rattle.statement.proofs.Rule.{Rule, Laws, Ok, Supported}
 use Rattle.statement.proofs.Bits.{lt_bit, bit_ext, bit_none, zero_or_one}
@@ -97,7 +97,7 @@ module _ (n : ℕ) (pn : 0 < n) (way : Way n) where
 pub number_way : (n c : ℕ) → 0 < n → Split n c → (way : Way n) × (group_number n way ≡ c) × ((i : ℕ) → way.side i ≡ eqb (bit c i) 1)
 number_way n c pn s =
     let (i, l, z, o) = lt_bit n 0 c s.some s.below in
-    let way : Way n = record { side = λ j. eqb (bit c j) 1; other = (i, l, λ e. true≢false (sym (eq_eqb (bit c i) 1 o) ∙ e ∙ ne_eqb (bit c 0) 1 (λ q. omega (arith, s.free)))) } in
+    let way : Way n = record { side = λ j. eqb (bit c j) 1; other = (i, l, λ e. true≢false (sym (eq-eqb (bit c i) 1 o) ∙ e ∙ ne_eqb (bit c 0) 1 (λ q. omega (arith, s.free)))) } in
     (way, bit_ext n (group_number n way) c (group_below _ n) s.below (λ j lj. same way (λ t. refl) j lj (zero_or_one c j)), λ j. refl)
   where
     home : eqb (bit c 0) 1 ≡ false
@@ -105,7 +105,7 @@ number_way n c pn s =
 
     same : (way : Way n) → ((i : ℕ) → way.side i ≡ eqb (bit c i) 1) → (j : ℕ) → j < n → Out c j ⊎ In c j → bit (group_number n way) j ≡ bit c j
     same way sides j l (inl o) = same_out n pn way j l (sides j ∙ ne_eqb (bit c j) 1 (λ q. omega arith) ∙ sym (sides 0 ∙ home)) ∙ sym o
-    same way sides j l (inr i) = apart_in n pn way j l (λ e. true≢false (sym (eq_eqb (bit c j) 1 i) ∙ sym (sides j) ∙ e ∙ sides 0 ∙ home)) ∙ sym i
+    same way sides j l (inr i) = apart_in n pn way j l (λ e. true≢false (sym (eq-eqb (bit c j) 1 i) ∙ sym (sides j) ∙ e ∙ sides 0 ∙ home)) ∙ sym i
 
 -- EVERY FOUR of a way is above zero exactly when its split is supported; Above says so of a four, as the rule does
 module _ (r : Rule) (laws : Laws r) (n : ℕ) (pn : 0 < n) (fits : n ≤ r.taxa) (Above : Way n → ℕ → ℕ → ℕ → ℕ → Type 0) (way : Way n)

@@ -1,10 +1,10 @@
 -- One taxon more, in the three steps of the code: each has room, and together they make the enlarged list. Assumes nothing.
 use Prim.Native.Nat.{ℕ, suc, ◌+◌, ◌^◌, ◌≤◌, ◌<◌}
 use native.Mathlib.Omega.{arith}
-use native.Mathlib.Numerals.{add_one}
+use native.Mathlib.Numerals.{add-one}
 use mathlib.Core.Path.{◌≡◌, sym, ◌∙◌, ap, ap₂}
 use mathlib.Core.List.{List, [], ◌∷◌, ◌++◌, append_assoc}
-use lib.ListN.{length, get_or, replicate, length_append, length_map}
+use lib.ListN.{length, get_or, replicate, length-append, length-map}
 use lib.Pow.{pow_mono}
 use Rattle.statement.specs.declared.Splits.{Splits}
 use Rattle.statement.specs.Rows.{Row, row, clusters, list_in, rows_of, filled, list_of, Ascending}
@@ -20,13 +20,13 @@ use Rattle.grow.proofs.Laws.{kept_append, raised_none}
 pub cluster_fits : (n : ℕ) (s : Splits) → Roomy s → n ≤ 64 → s.taxa < n → Ascending 1 (2 ^ s.taxa) (clusters (rows_of s)) → (b : ℕ) → b ≤ 2 ^ s.taxa
     → (i : ℕ) → i < s.rows → b + get_or s.clusters i 0 < 2 ^ 64
 cluster_fits n s room few more up b lb i l =
-    let m = mem_get_d (clusters (rows_of s)) i (omega (arith, rows_length s room, length_map (rows_of s) (λ r. r.cluster))) in
+    let m = mem_get_d (clusters (rows_of s)) i (omega (arith, rows_length s room, length-map (rows_of s) (λ r. r.cluster))) in
     omega (arith, asc_mem 1 (2 ^ s.taxa) (clusters (rows_of s)) up (get_or (clusters (rows_of s)) i 0) m, cluster_at_law s room i l, pow_mono {i = suc s.taxa} {j = 64} (omega arith))
 
 -- columns of zeros are the empty list
 pub blank : (k : ℕ) → list_in (suc k) 0 (replicate 125 0) (replicate 125 0) ≡ list_of (k + 1) []
 unfolding list_of filled
-blank k = ap (λ (m : ℕ). list_in m 0 (replicate 125 0) (replicate 125 0)) (sym (add_one k))
+blank k = ap (λ (m : ℕ). list_in m 0 (replicate 125 0) (replicate 125 0)) (sym (add-one k))
 
 -- what is kept: of the old splits without the newcomer, of the newcomer by itself, of the old splits with it
 abbrev pub tries : (ℕ → ℕ → ℕ → ℕ → ℕ) → Splits → ℕ → ℕ → ℕ
@@ -49,7 +49,7 @@ module _ (trial : ℕ → ℕ → ℕ → ℕ → ℕ) (most : ℕ) (s : Splits)
       ∙ ap (λ (l : List Row). (without trial s) ++ l) (kept_append (tries trial s) (row (2 ^ s.taxa) most ∷ []) (raised (2 ^ s.taxa) (rows_of s)))
 
   sizes : length (without trial s) + (length (single trial most s) + length (within trial s)) ≤ 125
-  sizes = omega (arith, ap length parts, length_append (without trial s) ((single trial most s) ++ (within trial s)), length_append (single trial most s) (within trial s))
+  sizes = omega (arith, ap length parts, length-append (without trial s) ((single trial most s) ++ (within trial s)), length-append (single trial most s) (within trial s))
 
   -- the old splits without the newcomer, onto the empty list
   module _ (none : Splits) (is : none ≡ list_of (s.taxa + 1) []) where
@@ -62,7 +62,7 @@ module _ (trial : ℕ → ℕ → ℕ → ℕ → ℕ) (most : ℕ) (s : Splits)
 
     pub first_is : (t : Splits) → t ≡ appended none (kept (tries trial s) (raised 0 (rows_of s))) → t ≡ list_of (suc s.taxa) (without trial s)
     first_is t e =
-        e ∙ ap₂ (λ (u : Splits) (l : List Row). appended u (kept (tries trial s) l)) (is ∙ ap (λ (k : ℕ). list_of k []) (add_one s.taxa)) (raised_none (rows_of s))
+        e ∙ ap₂ (λ (u : Splits) (l : List Row). appended u (kept (tries trial s) l)) (is ∙ ap (λ (k : ℕ). list_of k []) (add-one s.taxa)) (raised_none (rows_of s))
         ∙ appended_list (suc s.taxa) [] (without trial s) (omega (arith, sizes))
 
   rows_is : (t : Splits) (rows : List Row) → t ≡ list_of (suc s.taxa) rows → t.rows ≡ length rows
@@ -86,9 +86,9 @@ module _ (trial : ℕ → ℕ → ℕ → ℕ → ℕ) (most : ℕ) (s : Splits)
     with_is = ap (λ (c : ℕ). kept (tries trial s) (raised c (rows_of s))) eb
 
     pub third_room : t.rows + length (kept (tries trial s) (raised b (rows_of s))) ≤ 125
-    third_room = omega (arith, rows_is t ((without trial s) ++ (single trial most s)) is, length_append (without trial s) (single trial most s), ap length with_is, sizes)
+    third_room = omega (arith, rows_is t ((without trial s) ++ (single trial most s)) is, length-append (without trial s) (single trial most s), ap length with_is, sizes)
 
     pub third_is : (u : Splits) → u ≡ appended t (kept (tries trial s) (raised b (rows_of s))) → u ≡ with_taxon trial most s
     third_is u e =
-        e ∙ ap₂ appended is with_is ∙ appended_list (suc s.taxa) ((without trial s) ++ (single trial most s)) (within trial s) (omega (arith, length_append (without trial s) (single trial most s), sizes))
+        e ∙ ap₂ appended is with_is ∙ appended_list (suc s.taxa) ((without trial s) ++ (single trial most s)) (within trial s) (omega (arith, length-append (without trial s) (single trial most s), sizes))
         ∙ ap (list_of (suc s.taxa)) (append_assoc (without trial s) (single trial most s) (within trial s) ∙ sym parts)

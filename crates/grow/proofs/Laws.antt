@@ -1,13 +1,13 @@
 -- Rows kept and pushed. Assumes nothing.
 use Prim.Native.Nat.{ℕ, suc, ◌+◌, ◌≤◌, ◌<◌}
 use native.Mathlib.Omega.{arith}
-use native.Mathlib.Numerals.{add_one}
+use native.Mathlib.Numerals.{add-one}
 use mathlib.Core.Path.{◌≡◌, refl, sym, ◌∙◌, ap, ap₂}
 use mathlib.Core.Bool.{Bool, true, false}
 use mathlib.Core.List.{List, [], ◌∷◌, ◌++◌}
 use lib.Dec.{ltb}
-use lib.ListN.{length, drop, get_or, length_append}
-use borrow.Author.Tests.{lt_ltb, le_ltb}
+use lib.ListN.{length, drop, get_or, length-append}
+use borrow.Author.Tests.{lt-ltb, le-ltb}
 use Rattle.statement.specs.declared.Splits.{Splits}
 use Rattle.statement.specs.Rows.{Row, row, rows_of}
 use Rattle.statement.specs.Growing.{cons_if, kept}
@@ -31,11 +31,11 @@ kept_append f (r ∷ rs) ys = go (ltb 0 (f r.cluster r.weight)) (kept_append f r
 -- one candidate, kept or not
 pub kept_one : (f : ℕ → ℕ → ℕ) (c w : ℕ) → 0 < f c w → kept f (row c w ∷ []) ≡ row c (f c w) ∷ []
 unfolding kept
-kept_one f c w h = rw (lt_ltb 0 (f c w) h)
+kept_one f c w h = rw (lt-ltb 0 (f c w) h)
 
 pub kept_none : (f : ℕ → ℕ → ℕ) (c w : ℕ) → f c w ≤ 0 → kept f (row c w ∷ []) ≡ []
 unfolding kept
-kept_none f c w h = rw (le_ltb 0 (f c w) h)
+kept_none f c w h = rw (le-ltb 0 (f c w) h)
 
 -- nothing added
 pub raised_none : (rows : List Row) → raised 0 rows ≡ rows
@@ -47,7 +47,7 @@ module _ (f : ℕ → ℕ → ℕ) (b : ℕ) (s : Splits) (room : Roomy s) (i : 
   pub pass_turn : kept f (raised b (drop i (rows_of s)))
       ≡ kept f (row (b + get_or s.clusters i 0) (get_or s.weights i 0) ∷ []) ++ kept f (raised b (drop (i + 1) (rows_of s)))
   pass_turn =
-      rw add_one (ap (λ (rows : List Row). kept f (raised b rows)) (rows_at s room i l)
+      rw add-one (ap (λ (rows : List Row). kept f (raised b rows)) (rows_at s room i l)
       ∙ kept_append f (row (b + get_or s.clusters i 0) (get_or s.weights i 0) ∷ []) (raised b (drop (suc i) (rows_of s))))
 
 pub pass_end : (f : ℕ → ℕ → ℕ) (b : ℕ) (s : Splits) → Roomy s → kept f (raised b (drop s.rows (rows_of s))) ≡ []
@@ -84,7 +84,7 @@ module _ (f : ℕ → ℕ → ℕ) (b : ℕ) (s into : Splits) where
 
     sizes : length (kept f (raised b (drop i (rows_of s)))) ≡ length one + length rest
     unfolding one rest
-    sizes = ap length (pass_turn f b s room i l) ∙ length_append one rest
+    sizes = ap length (pass_turn f b s room i l) ∙ length-append one rest
 
     pub passing_room : t.rows + length (kept f (row (b + get_or s.clusters i 0) (get_or s.weights i 0) ∷ [])) ≤ 125
     unfolding one

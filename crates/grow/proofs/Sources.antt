@@ -5,8 +5,8 @@ use native.Mathlib.Decide.{ℕ_discrete}
 use mathlib.Core.Path.{◌≡◌, refl, sym, ◌∙◌, ap, ap₂, subst}
 use mathlib.Core.Logic.{◌≢◌}
 use mathlib.Core.List.{List, []}
-use lib.ListN.{length, replicate, length_append, length_map, length_replicate}
-use borrow.Author.Tests.{eq_eqb, ne_eqb}
+use lib.ListN.{length, replicate, length-append, length-map, length-replicate}
+use borrow.Author.Tests.{eq-eqb, ne_eqb}
 use Rattle.statement.specs.declared.Splits.{Splits}
 use Rattle.statement.specs.Matrix.{distance, weight_limit}
 use Rattle.statement.specs.Table.{choose, table_weight}
@@ -25,7 +25,7 @@ use Rattle.grow.specs.Source.{trial_by, most_by, parents_by, manner_by, extended
 module _ (kind n : ℕ) (entries bytes : List ℕ) where
   pub by_matrix_law : kind ≡ 1 → trial_by kind n entries bytes ≡ matrix_trial (distance n entries)
   unfolding trial_by
-  by_matrix_law e = rw (eq_eqb kind 1 e)
+  by_matrix_law e = rw (eq-eqb kind 1 e)
 
   pub by_table_law : kind ≢ 1 → trial_by kind n entries bytes ≡ table_trial bytes
   unfolding trial_by
@@ -33,7 +33,7 @@ module _ (kind n : ℕ) (entries bytes : List ℕ) where
 
   pub grows_matrix : kind ≡ 1 → manner_by kind n entries bytes ≡ by_matrix (distance n entries)
   unfolding trial_by most_by parents_by
-  grows_matrix e = rw (eq_eqb kind 1 e)
+  grows_matrix e = rw (eq-eqb kind 1 e)
 
   pub grows_table : kind ≢ 1 → manner_by kind n entries bytes ≡ by_table bytes
   unfolding trial_by most_by parents_by
@@ -41,7 +41,7 @@ module _ (kind n : ℕ) (entries bytes : List ℕ) where
 
 pub most_matrix : (kind : ℕ) → kind ≡ 1 → most_by kind ≡ weight_limit
 unfolding most_by
-most_matrix kind e = rw (eq_eqb kind 1 e)
+most_matrix kind e = rw (eq-eqb kind 1 e)
 
 pub most_table : (kind : ℕ) → kind ≢ 1 → most_by kind ≡ table_weight
 unfolding most_by
@@ -49,7 +49,7 @@ most_table kind e = rw (ne_eqb kind 1 e)
 
 pub extended_matrix : (kind : ℕ) (s : Splits) → kind ≡ 1 → extended_by kind s ≡ list_of s.taxa (with_trivial weight_limit s.taxa (rows_of s))
 unfolding extended_by
-extended_matrix kind s e = rw (eq_eqb kind 1 e)
+extended_matrix kind s e = rw (eq-eqb kind 1 e)
 
 pub extended_table : (kind : ℕ) (s : Splits) → kind ≢ 1 → extended_by kind s ≡ s
 unfolding extended_by
@@ -57,7 +57,7 @@ extended_table kind s e = rw (ne_eqb kind 1 e)
 
 pub parents_matrix : (kind k : ℕ) (rows : List Row) → kind ≡ 1 → parents_by kind k rows ≡ with_trivial weight_limit k rows
 unfolding parents_by
-parents_matrix kind k rows e = rw (eq_eqb kind 1 e)
+parents_matrix kind k rows e = rw (eq-eqb kind 1 e)
 
 -- the list of what is extended: its taxa, its rows and their count
 pub record Extending (kind : ℕ) (s p : Splits) : Type 0 where
@@ -82,14 +82,14 @@ extending kind s p room is = subst (Extending kind s) (sym is) (go (ℕ_discrete
 -- a list made of rows has its arrays' room
 filled_length : (xs : List ℕ) → length xs ≤ 125 → length (filled xs) ≡ 125
 unfolding filled
-filled_length xs h = omega (arith, length_append xs (replicate (125 - length xs) 0), length_replicate {A = ℕ} (125 - length xs) 0)
+filled_length xs h = omega (arith, length-append xs (replicate (125 - length xs) 0), length-replicate {A = ℕ} (125 - length xs) 0)
 
 list_roomy : (k : ℕ) (rows : List Row) → length rows ≤ 125 → Roomy (list_of k rows)
 unfolding list_of
 list_roomy k rows h =
     record {
-      clusters = filled_length (clusters rows) (omega (arith, length_map rows (λ r. r.cluster)));
-      weights = filled_length (weights rows) (omega (arith, length_map rows (λ r. r.weight)));
+      clusters = filled_length (clusters rows) (omega (arith, length-map rows (λ r. r.cluster)));
+      weights = filled_length (weights rows) (omega (arith, length-map rows (λ r. r.weight)));
       rows = h;
     }
 

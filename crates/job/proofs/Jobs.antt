@@ -4,9 +4,9 @@ use native.Mathlib.Omega.{arith}
 use mathlib.Core.Path.{◌≡◌, refl, sym, ◌∙◌, ap}
 use mathlib.Core.Logic.{◌≢◌}
 use mathlib.Core.List.{List, [], ◌∷◌}
-use lib.ListN.{length, take, drop, length_drop}
-use lib.Seq.{length_take_le}
-use borrow.Author.Tests.{eqb_true, eq_eqb, ne_eqb}
+use lib.ListN.{length, take, drop, length-drop}
+use lib.Seq.{length-take-le}
+use borrow.Author.Tests.{eqb-true, eq-eqb, ne_eqb}
 use Rattle.statement.specs.declared.Splits.{Splits}
 use Rattle.statement.specs.declared.Growth.{Growth}
 use Rattle.statement.specs.declared.Outcome.{Outcome}
@@ -53,15 +53,15 @@ module _ (bytes : List ℕ) (said : Outcome) (is : said ≡ outcome_of (taken_ch
     unfolding find_record
     job_body e =
         let f = job_found in
-        let long : length_in bytes ≤ length (drop 8 bytes) = omega (arith, length_drop 8 bytes, f.whole) in
+        let long : length_in bytes ≤ length (drop 8 bytes) = omega (arith, length-drop 8 bytes, f.whole) in
         let same : 8 + length_in bytes - 8 ≡ length_in bytes = omega arith in
         ap length (sym (body_found bytes (ap number_of ((found_exactly bytes).1 f)) (length_in bytes) refl) ∙ ap (λ (m : ℕ). take m (drop 8 bytes)) same)
-        ∙ length_take_le (length_in bytes) (drop 8 bytes) long
-        ∙ eqb_true _ _ (fits_matrix (kind_in bytes) (taxa_in bytes) (length_in bytes) e ∙ f.fits)
+        ∙ length-take-le (length_in bytes) (drop 8 bytes) long
+        ∙ eqb-true _ _ (fits_matrix (kind_in bytes) (taxa_in bytes) (length_in bytes) e ∙ f.fits)
 
     pub job_matrix : kind_in bytes ≡ 1 → run_matrix (taxa_in bytes) (from_bytes (body_in bytes)) ≡ run_record bytes
     unfolding run_record
-    job_matrix e = rw (done, eq_eqb (kind_in bytes) 1 e)
+    job_matrix e = rw (done, eq-eqb (kind_in bytes) 1 e)
 
     pub job_table : kind_in bytes ≢ 1 → run_table (taxa_in bytes) (body_in bytes) ≡ run_record bytes
     unfolding run_record

@@ -7,7 +7,7 @@ use mathlib.Core.Path.{◌≡◌, refl, sym, ◌∙◌, subst}
 use mathlib.Core.Logic.{◌≢◌, ◌↔◌}
 use mathlib.Core.List.{List}
 use lib.ListN.{length, get_or, set}
-use lib.Seq.{get_or_set_other}
+use lib.Seq.{get_or-set_other}
 use lib.IntN.{pos, sub_ℕ}
 use lib.Signed.{◌≤ℤ◌}
 use Rattle.statement.specs.Matrix.{distance, AcceptedMatrix, score, weight_limit}
@@ -160,5 +160,5 @@ module _ (d : ℕ → ℕ → ℕ) (j : ℕ) (xs : List ℕ) where
   taking_turn v r room h new =
       record {
         done = stored (Lone d (j + 1)) xs v r room new h.done;
-        left = λ u l m. rw (get_or_set_other xs v u r 0 (λ e. absurd (omega arith))) (h.left u (omega arith) m);
+        left = λ u l m. rw (get_or-set_other xs v u r 0 (λ e. absurd (omega arith))) (h.left u (omega arith) m);
       }

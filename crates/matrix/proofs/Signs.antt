@@ -9,20 +9,20 @@ use lib.IntN.{ℤ, pos, negsuc, nat_abs, sub_ℕ, ◌-ℤ◌}
 use lib.Signed.{lt_z, le_z, non_neg}
 use mir.Syntax.{w64}
 use mir.Val.{SFits, to_z}
-use mir.ValLaws.{to_z_of_z}
-use borrow.Author.Tests.{ltb_false, leb_true, leb_false, le_ltb}
+use mir.ValLaws.{to_z-of_z}
+use borrow.Author.Tests.{ltb-false, leb-true, leb-false, le-ltb}
 use Rattle.statement.specs.Matrix.{score}
 use Rattle.statement.specs.Growing.{above}
 use Rattle.statement.proofs.Matrix.{le_sub, sub_le}
 use Rattle.statement.proofs.Trial.{above_is}
 
 minus : (a b : ℕ) → pos a -ℤ pos b ≡ sub_ℕ a b
-minus a zero = let e : a + 0 ≡ a - 0 = omega arith in ap pos e ∙ rw (le_ltb a 0 (omega arith))
+minus a zero = let e : a + 0 ≡ a - 0 = omega arith in ap pos e ∙ rw (le-ltb a 0 (omega arith))
 minus a (suc b) = refl
 
 -- a number read as a signed one
 pub signed : (a : ℕ) → a < 2 ^ 63 → to_z w64 a ≡ pos a
-signed a h = to_z_of_z w64 (pos a) (record { sfits = h })
+signed a h = to_z-of_z w64 (pos a) (record { sfits = h })
 
 -- the difference of two small numbers, as signed ones, is exact and fits
 module _ (a b : ℕ) (ha : a < 2 ^ 63) (hb : b < 2 ^ 63) where
@@ -38,15 +38,15 @@ module _ (a b : ℕ) (ha : a < 2 ^ 63) (hb : b < 2 ^ 63) where
 
 -- the lesser of a weight and a score, by its sign
 pub at_least : (z : ℤ) (b : ℕ) → le_z (pos b) z ≡ true → b ≡ min (above z) b
-at_least (pos m) b e = omega (arith, leb_true b m e)
+at_least (pos m) b e = omega (arith, leb-true b m e)
 at_least (negsuc m) b e = absurd (true≢false (sym e))
 
 pub positive : (z : ℤ) (b : ℕ) → le_z (pos b) z ≡ false → lt_z (pos 0) z ≡ true → T (non_neg z) × (nat_abs z ≡ min (above z) b)
-positive (pos m) b e f = (tt, omega (arith, leb_false b m e))
+positive (pos m) b e f = (tt, omega (arith, leb-false b m e))
 positive (negsuc m) b e f = absurd (true≢false (sym f))
 
 pub not_positive : (z : ℤ) (b : ℕ) → lt_z (pos 0) z ≡ false → 0 ≡ min (above z) b
-not_positive (pos m) b f = omega (arith, ltb_false 0 m f)
+not_positive (pos m) b f = omega (arith, ltb-false 0 m f)
 not_positive (negsuc m) b f = omega arith
 
 -- the score, from six distances

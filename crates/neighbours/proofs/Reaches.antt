@@ -9,7 +9,7 @@ use mathlib.Core.Bool.{Bool, true, false, not, ◌&&◌, ◌||◌, true≢false}
 use mathlib.Core.List.{List}
 use lib.Dec.{eqb}
 use lib.ListN.{length, set}
-use borrow.Author.Tests.{eqb_true, eqb_false}
+use borrow.Author.Tests.{eqb-true, eqb-false}
 use Rattle.statement.specs.Cluster.{bit, Pair}
 use Rattle.statement.specs.Growing.{alone, pairs}
 use Rattle.statement.proofs.Pairs.{pairs_pair, pair_pairs}
@@ -36,7 +36,7 @@ pub own_beside : (k a c x : ℕ) {r : Bool} → r ≡ (eqb (bit c x) (bit c a) &
 own_beside k a c x e h = go (eqb (bit c x) (bit c a)) refl (eqb x a) refl (sym e ∙ h)
   where
     go : (p : Bool) → eqb (bit c x) (bit c a) ≡ p → (q : Bool) → eqb x a ≡ q → (p && not q) ≡ true → Own k a c x
-    go true ep false eq s = (eqb_true (bit c x) (bit c a) ep, λ w. absurd (eqb_false x a eq (sym w)))
+    go true ep false eq s = (eqb-true (bit c x) (bit c a) ep, λ w. absurd (eqb-false x a eq (sym w)))
     go true ep true eq s = absurd (true≢false (sym s))
     go false ep q eq s = absurd (true≢false (sym s))
 

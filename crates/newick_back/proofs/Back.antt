@@ -6,7 +6,7 @@ use mathlib.Core.Path.{◌≡◌, ◌∙◌, ap, ap₂}
 use mathlib.Core.Bool.{cond}
 use mathlib.Core.List.{List, [], ◌∷◌, ◌++◌, append_assoc}
 use lib.Dec.{ltb}
-use lib.ListN.{length, get_or, length_map, get_or_map}
+use lib.ListN.{length, get_or, length-map, get_or-map}
 use Rattle.statement.specs.Matrix.{weight_limit}
 use Rattle.statement.specs.Rows.{Row, row, weights}
 use Rattle.statement.specs.Tree.{sort_rows}
@@ -30,12 +30,12 @@ module _ (n : ℕ) (rows : List Row) (two : 2 ≤ n) (few : n ≤ 64) (well : We
   t = shape_of n rows
 
   heavy : (c : ℕ) → c < length rows → 0 < get_or (weights rows) c 0
-  heavy c l = omega (arith, (well.weigh (get_or (weights rows) c 0) (mem_get_d (weights rows) c (omega (arith, length_map rows (λ r. r.weight))))).0)
+  heavy c l = omega (arith, (well.weigh (get_or (weights rows) c 0) (mem_get_d (weights rows) c (omega (arith, length-map rows (λ r. r.weight))))).0)
 
   -- the edge above a vertex is its row
   edge_row : (c : ℕ) → c < length rows → edge_at t c ≡ get_or rows c (row 0 0)
   edge_row c l =
-      ap₂ row (mask_cluster n rows well.clean c l ∙ get_or_map (λ r. r.cluster) rows c (row 0 0)) (get_or_map (λ r. r.weight) rows c (row 0 0))
+      ap₂ row (mask_cluster n rows well.clean c l ∙ get_or-map (λ r. r.cluster) rows c (row 0 0)) (get_or-map (λ r. r.weight) rows c (row 0 0))
 
   -- THE EDGES, sorted, are the rows
   pub edges_rows : sort_rows (positive (edges_in t (length rows))) ≡ rows

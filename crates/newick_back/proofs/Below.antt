@@ -9,7 +9,7 @@ use mathlib.Core.Bool.{Bool, true, cond}
 use mathlib.Core.List.{List, [], ◌∷◌}
 use lib.Dec.{ltb, eqb}
 use lib.ListN.{length}
-use borrow.Author.Tests.{eq_eqb, ne_eqb, lt_ltb, le_ltb}
+use borrow.Author.Tests.{eq-eqb, ne_eqb, lt-ltb, le-ltb}
 use Rattle.statement.specs.Cluster.{bit, In, Out, group_of}
 use Rattle.statement.specs.Rows.{Row, clusters}
 use Rattle.statement.specs.Tree.{cluster_at, link_of, home_of}
@@ -48,10 +48,10 @@ taxa_same t f g e (suc k) v l =
 
 module _ (n : ℕ) (rows : List Row) (clean : Clean n (clusters rows)) where
   at_row : (v : ℕ) → v < length rows → group_at n rows v ≡ cluster_at rows v
-  at_row v l = rw (lt_ltb v (length rows) l)
+  at_row v l = rw (lt-ltb v (length rows) l)
 
   at_root : (v : ℕ) → length rows ≤ v → group_at n rows v ≡ group_of (λ i. true) n
-  at_root v l = rw (le_ltb v (length rows) l)
+  at_root v l = rw (le-ltb v (length rows) l)
 
   pub group_range : (v : ℕ) → group_at n rows v < 2 ^ n
   group_range v = go (dec_lt v (length rows))
@@ -119,7 +119,7 @@ module _ (n : ℕ) (rows : List Row) (clean : Clean n (clusters rows)) where
       where
         go : Dec (link_of n rows c ≡ v) → Out (cluster_at rows c) i ⊎ In (cluster_at rows c) i → cond (linked v c) (holds c) 0 ≡ 0
         go (no o) h = rw (ne_eqb (link_of n rows c) v o)
-        go (yes e) (inl o) = rw (eq_eqb (link_of n rows c) v e) o
+        go (yes e) (inl o) = rw (eq-eqb (link_of n rows c) v e) o
         go (yes e) (inr h) = absurd (f e h)
 
     home_low : (v : ℕ) → v ≤ length rows → In (group_at n rows v) i → home_of rows i ≤ v
@@ -143,7 +143,7 @@ module _ (n : ℕ) (rows : List Row) (clean : Clean n (clusters rows)) where
         let near : link_of n rows c ≤ v = link_close c v lc lv hc h in
         let later = (link_later n rows clean.up c (omega arith)).0 in
         let up : link_of n rows c ≡ v = top c lc hc f near later (dec_lt (link_of n rows c) v) in
-        below_one holds (linked v) v c 1 lc (rw (eq_eqb (link_of n rows c) v up) hc)
+        below_one holds (linked v) v c 1 lc (rw (eq-eqb (link_of n rows c) v up) hc)
         (λ d ld o. term_none v d (λ e hd. other c lc hc f d ld o e hd (dec_lt d c)))
       where
         top : (c : ℕ) → c < v → In (cluster_at rows c) i → ((d : ℕ) → c < d → d < v → Out (cluster_at rows d) i) → link_of n rows c ≤ v → c < link_of n rows c
@@ -169,7 +169,7 @@ module _ (n : ℕ) (rows : List Row) (clean : Clean n (clusters rows)) where
             rw (ne_eqb (home_of rows i) v e) (omega (arith, none, o))
         go (inr h) (yes e) =
             let none = below_none holds (linked v) v (λ c l. term_none v c (λ q k. omega (arith, (home_smallest n rows clean i li).lowest c k))) in
-            rw (eq_eqb (home_of rows i) v e) (omega (arith, none, h))
+            rw (eq-eqb (home_of rows i) v e) (omega (arith, none, h))
         go (inr h) (no e) = rw (ne_eqb (home_of rows i) v e) (omega (arith, one_child v lv h (omega (arith, e, home_low v lv h)), h))
 
     pub counted : (k v : ℕ) → v < k → v ≤ length rows → count i (taxa_in (shape_of n rows) v) ≡ bit (group_at n rows v) i
@@ -185,7 +185,7 @@ module _ (n : ℕ) (rows : List Row) (clean : Clean n (clusters rows)) where
   pub mask_below : (v : ℕ) → v ≤ length rows → mask (taxa_in (shape_of n rows) v) ≡ group_at n rows v
   mask_below v lv =
       mask_total (taxa_in (shape_of n rows) v)
-      ∙ taxa_same (shape_of n rows) (λ x. 2 ^ x) (λ x. cond (ltb x n) (2 ^ x) 0) (λ i l. sym (rw (lt_ltb i n l))) (suc v) v (omega arith)
+      ∙ taxa_same (shape_of n rows) (λ x. 2 ^ x) (λ x. cond (ltb x n) (2 ^ x) 0) (λ i l. sym (rw (lt-ltb i n l))) (suc v) v (omega arith)
       ∙ mask_group n (group_at n rows v) (taxa_in (shape_of n rows) v) (group_range v) (λ i l. counted i l (suc v) v (omega arith) lv)
 
   pub mask_cluster : (v : ℕ) → v < length rows → mask (taxa_in (shape_of n rows) v) ≡ cluster_at rows v
@@ -199,10 +199,10 @@ module _ (n : ℕ) (rows : List Row) (clean : Clean n (clusters rows)) where
       none x l h = rw (ne_eqb x i (λ e. omega arith))
 
       go : Dec (i < n) → count i (taxa_in (shape_of n rows) (length rows)) ≡ cond (ltb i n) 1 0
-      go (yes l) = counted i l (suc (length rows)) (length rows) (omega arith) (omega arith) ∙ all_in i l (length rows) (omega arith) ∙ sym (rw (lt_ltb i n l))
+      go (yes l) = counted i l (suc (length rows)) (length rows) (omega arith) (omega arith) ∙ all_in i l (length rows) (omega arith) ∙ sym (rw (lt-ltb i n l))
       go (no l) =
           taxa_same (shape_of n rows) (one i) (λ x. 0) (λ x h. none x (omega arith) h) (suc (length rows)) (length rows) (omega arith)
-          ∙ total_zero (taxa_in (shape_of n rows) (length rows)) ∙ sym (rw (le_ltb i n (let h : n ≤ i = omega arith in h)))
+          ∙ total_zero (taxa_in (shape_of n rows) (length rows)) ∙ sym (rw (le-ltb i n (let h : n ≤ i = omega arith in h)))
 
   -- every vertex has a taxon or a child
   pub full : 0 < n → (v : ℕ) → v ≤ length rows → 0 < length (homed (shape_of n rows) v) + length (children (shape_of n rows) v)

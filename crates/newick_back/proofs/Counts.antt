@@ -1,14 +1,14 @@
 -- Sums over lists of numbers: one place, no place, counts and the number of a group. Assumes nothing.
 use Prim.Native.Nat.{ℕ, zero, suc, ◌+◌, ◌*◌, ◌^◌, ◌≤◌, ◌<◌}
 use native.Mathlib.Omega.{arith}
-use native.Mathlib.Nat.{suc_mul}
+use native.Mathlib.Nat.{suc-mul}
 use native.Mathlib.Decide.{dec_lt, ℕ_discrete}
 use mathlib.Core.Path.{◌≡◌, refl, sym, ◌∙◌, ap, ap₂}
 use mathlib.Core.Logic.{◌⊎◌, inl, inr, ◌≢◌}
 use mathlib.Core.Bool.{Bool, true, false, cond}
 use mathlib.Core.List.{List, [], ◌∷◌}
 use lib.Dec.{ltb, eqb}
-use borrow.Author.Tests.{eq_eqb, ne_eqb, lt_ltb, le_ltb}
+use borrow.Author.Tests.{eq-eqb, ne_eqb, lt-ltb, le-ltb}
 use Rattle.statement.specs.Cluster.{bit, In, Out, group_of}
 use Rattle.statement.proofs.Bits.{zero_or_one, bit_ext}
 use Rattle.statement.proofs.Groups.{group_below, group_bit}
@@ -40,7 +40,7 @@ abbrev pub count : ℕ → List ℕ → ℕ
 count i xs = total (one i) xs
 
 pub count_those : (p : ℕ → Bool) (n i : ℕ) → i < n → count i (those_from p 0 n) ≡ cond (p i) 1 0
-count_those p n i l = below_one (one i) p n i (cond (p i) 1 0) l (ap (λ (b : Bool). cond (p i) (cond b 1 0) 0) (eq_eqb i i refl)) (λ d k o. none (p d) (ap (λ (b : Bool). cond {A = ℕ} b 1 0) (ne_eqb d i o)))
+count_those p n i l = below_one (one i) p n i (cond (p i) 1 0) l (ap (λ (b : Bool). cond (p i) (cond b 1 0) 0) (eq-eqb i i refl)) (λ d k o. none (p d) (ap (λ (b : Bool). cond {A = ℕ} b 1 0) (ne_eqb d i o)))
   where
     none : {x : ℕ} (b : Bool) → x ≡ 0 → cond b x 0 ≡ 0
     none true e = e
@@ -75,7 +75,7 @@ total_times k w (x ∷ xs) = go (eqb x k) (total_times k w xs)
     go : (b : Bool) → total (λ x. cond (eqb x k) w 0) xs ≡ count k xs * w → cond b w 0 + total (λ x. cond (eqb x k) w 0) xs ≡ (cond b 1 0 + count k xs) * w
     go true e =
         let s : 1 + count k xs ≡ suc (count k xs) = omega arith in
-        omega (arith, e, suc_mul (count k xs) w, ap (λ (c : ℕ). c * w) s)
+        omega (arith, e, suc-mul (count k xs) w, ap (λ (c : ℕ). c * w) s)
     go false e = let s : 0 + count k xs ≡ count k xs = omega arith in omega (arith, e, ap (λ (c : ℕ). c * w) s)
 
 pub mask_total : (xs : List ℕ) → mask xs ≡ total (λ x. 2 ^ x) xs
@@ -92,9 +92,9 @@ module _ (xs : List ℕ) (test : ℕ → Bool) where
   part_suc k x = at (dec_lt x k) (ℕ_discrete x k)
     where
       at : Dec (x < k) → Dec (x ≡ k) → cond (ltb x (suc k)) (2 ^ x) 0 ≡ cond (ltb x k) (2 ^ x) 0 + cond (eqb x k) (2 ^ k) 0
-      at (yes l) d = rw (lt_ltb x (suc k) (let h : x < suc k = omega arith in h), lt_ltb x k l, ne_eqb x k (λ e. omega arith)) (omega arith)
-      at (no l) (yes e) = rw (lt_ltb x (suc k) (let h : x < suc k = omega arith in h), le_ltb x k (let h : k ≤ x = omega arith in h), eq_eqb x k e) (ap (λ (y : ℕ). 2 ^ y) e ∙ omega arith)
-      at (no l) (no o) = rw (le_ltb x (suc k) (let h : suc k ≤ x = omega (arith, l, o) in h), le_ltb x k (let h : k ≤ x = omega arith in h), ne_eqb x k o) (omega arith)
+      at (yes l) d = rw (lt-ltb x (suc k) (let h : x < suc k = omega arith in h), lt-ltb x k l, ne_eqb x k (λ e. omega arith)) (omega arith)
+      at (no l) (yes e) = rw (lt-ltb x (suc k) (let h : x < suc k = omega arith in h), le-ltb x k (let h : k ≤ x = omega arith in h), eq-eqb x k e) (ap (λ (y : ℕ). 2 ^ y) e ∙ omega arith)
+      at (no l) (no o) = rw (le-ltb x (suc k) (let h : suc k ≤ x = omega (arith, l, o) in h), le-ltb x k (let h : k ≤ x = omega arith in h), ne_eqb x k o) (omega arith)
 
   times : (b : Bool) (c w : ℕ) → c ≡ cond b 1 0 → c * w ≡ cond b w 0
   times true c w e = ap (λ (d : ℕ). d * w) e ∙ omega arith
@@ -102,7 +102,7 @@ module _ (xs : List ℕ) (test : ℕ → Bool) where
 
   pub parts_group : (k : ℕ) → ((i : ℕ) → i < k → count i xs ≡ cond (test i) 1 0) → total (part k) xs ≡ group_of test k
   unfolding group_of
-  parts_group zero h = total_same (part 0) (λ x. 0) xs (λ x. rw (le_ltb x 0 (let q : 0 ≤ x = omega arith in q))) ∙ total_zero xs
+  parts_group zero h = total_same (part 0) (λ x. 0) xs (λ x. rw (le-ltb x 0 (let q : 0 ≤ x = omega arith in q))) ∙ total_zero xs
   parts_group (suc k) h =
       total_same (part (suc k)) (λ x. part k x + cond (eqb x k) (2 ^ k) 0) xs (part_suc k) ∙ total_add (part k) (λ x. cond (eqb x k) (2 ^ k) 0) xs
       ∙ ap₂ (λ (a b : ℕ). a + b) (parts_group k (λ i l. h i (omega arith)))

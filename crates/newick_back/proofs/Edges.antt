@@ -6,7 +6,7 @@ use mathlib.Core.Bool.{Bool, true, false, cond}
 use mathlib.Core.List.{List, [], ◌∷◌, ◌++◌}
 use lib.Dec.{ltb, eqb}
 use lib.ListN.{length, get_or}
-use borrow.Author.Tests.{lt_ltb}
+use borrow.Author.Tests.{lt-ltb}
 use Rattle.statement.specs.Rows.{Row, row}
 use Rattle.statement.specs.NewickText.{Shape, those_from, homed, children}
 use Rattle.newick_list.proofs.Room.{Way, bare, brackets, way}
@@ -38,7 +38,7 @@ module _ (f : Row → ℕ) where
 
   sum_one : (r : Row) → 0 < r.weight → sum (r ∷ []) ≡ f r
   unfolding positive row_total
-  sum_one r l = rw (lt_ltb 0 r.weight l) (omega arith)
+  sum_one r l = rw (lt-ltb 0 r.weight l) (omega arith)
 
   sum_leaves : (xs : List ℕ) → sum (gathered (λ i. leaf_edge i ∷ []) xs) ≡ 0
   unfolding gathered positive row_total

@@ -5,7 +5,7 @@ use mathlib.Core.Path.{◌≡◌, refl, sym, ◌∙◌, ap, ap₂, subst}
 use mathlib.Core.Bool.{Bool, true, false, cond, not}
 use mathlib.Core.List.{List, [], ◌∷◌, ◌++◌, map}
 use lib.ListN.{length}
-use borrow.Author.Tests.{ne_eqb, le_ltb}
+use borrow.Author.Tests.{ne_eqb, le-ltb}
 use Rattle.statement.specs.declared.Splits.{Splits}
 use Rattle.statement.specs.declared.Outcome.TheVariants.{Done}
 use Rattle.statement.specs.Cluster.{bit, Out, group_of}
@@ -104,7 +104,7 @@ module _ (n : ℕ) (rows : List Row) (two : 2 ≤ n) (few : n ≤ 64) (well : We
     few = few;
     taxa = taxa_good n f holds.taxa;
     whole = none_missing n f (taxa_all n f holds.taxa);
-    light = places_none too_heavy edges (all_in (λ e. too_heavy e ≡ false) edges (all_map Good (λ e. too_heavy e ≡ false) edges (λ e h. le_ltb weight_limit e.weight h.light) all_good));
+    light = places_none too_heavy edges (all_in (λ e. too_heavy e ≡ false) edges (all_map Good (λ e. too_heavy e ≡ false) edges (λ e h. le-ltb weight_limit e.weight h.light) all_good));
     full = places_none (is_bare n) edges
         (all_in (λ e. is_bare n e ≡ false) edges (all_map Good (λ e. is_bare n e ≡ false) edges (λ e h. ne_eqb (split_made n e) 0 (λ z. omega (arith, h.cluster, h.some))) all_good));
     apart = twins_none n edges [] (later_none n edges) (different_once (map (row_of n) edges) (λ c. omega (arith, cluster_once c, ap (count c) (clusters_are edges))));

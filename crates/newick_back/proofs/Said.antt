@@ -8,7 +8,7 @@ use mathlib.Core.Logic.{inl, inr}
 use mathlib.Core.Bool.{Bool, true, false, cond, ◌||◌}
 use mathlib.Core.List.{List, [], ◌∷◌, ◌++◌, map, append_assoc}
 use lib.Dec.{ltb, eqb}
-use borrow.Author.Tests.{eq_eqb, ne_eqb, lt_ltb, le_ltb}
+use borrow.Author.Tests.{eq-eqb, ne_eqb, lt-ltb, le-ltb}
 use Rattle.statement.specs.Cluster.{group_of}
 use Rattle.statement.specs.Rows.{Row, row, clusters, Mem, Ascending}
 use Rattle.row_sort.proofs.Sorting.{Held, Different}
@@ -30,7 +30,7 @@ unfolding total
 count_none i = refl
 
 one_own : (i : ℕ) → one i i ≡ 1
-one_own i = rw (eq_eqb i i refl)
+one_own i = rw (eq-eqb i i refl)
 
 one_other : (i x : ℕ) → (x ≡ i → ⊥) → one i x ≡ 0
 one_other i x o = rw (ne_eqb x i o)
@@ -48,7 +48,7 @@ among_some x [] l = absurd (omega (arith, count_none x))
 among_some x (y ∷ ys) l = go (ℕ_discrete y x) (λ k. among_some x ys k)
   where
     go : Dec (y ≡ x) → (0 < count x ys → among x ys ≡ true) → (eqb x y || among x ys) ≡ true
-    go (yes q) ih = rw (eq_eqb x y (sym q))
+    go (yes q) ih = rw (eq-eqb x y (sym q))
     go (no q) ih = rw (ne_eqb x y (λ z. q (sym z))) (ih (omega (arith, l, count_cons x y ys, one_other x y q)))
 
 count_among : (x : ℕ) (xs : List ℕ) → count x xs ≤ 1 → count x xs ≡ cond (among x xs) 1 0
@@ -65,7 +65,7 @@ total_below f n [] h = refl
 total_below f n (x ∷ xs) h = go (dec_lt x n) (total_below f n xs (λ i l. omega (arith, h i l, count_cons i x xs)))
   where
     go : Dec (x < n) → total f xs ≡ total (λ x. cond (ltb x n) (f x) 0) xs → f x + total f xs ≡ cond (ltb x n) (f x) 0 + total (λ x. cond (ltb x n) (f x) 0) xs
-    go (yes l) e = rw (lt_ltb x n l) (ap (λ (s : ℕ). f x + s) e)
+    go (yes l) e = rw (lt-ltb x n l) (ap (λ (s : ℕ). f x + s) e)
     go (no l) e = absurd (omega (arith, h x (omega arith), count_cons x x xs, one_own x))
 
 pub group_taxa : (n : ℕ) (xs : List ℕ) → ((i : ℕ) → count i xs ≤ 1) → ((i : ℕ) → n ≤ i → count i xs ≡ 0) → mask xs ≡ group_of (λ i. among i xs) n
@@ -160,8 +160,8 @@ kept_are (e ∷ es) = go (dec_lt 0 e.weight) (kept_are es)
   where
     go : Dec (0 < e.weight) → map row_below (kept_edges es) ≡ positive (map row_below es)
         → map row_below (cond (eqb e.weight 0) (kept_edges es) (e ∷ kept_edges es)) ≡ cond (ltb 0 e.weight) (row_below e ∷ positive (map row_below es)) (positive (map row_below es))
-    go (yes l) h = rw (ne_eqb e.weight 0 (λ z. omega arith), lt_ltb 0 e.weight l) (ap (λ (x : List Row). row_below e ∷ x) h)
-    go (no l) h = rw (eq_eqb e.weight 0 (let z : e.weight ≡ 0 = omega arith in z), le_ltb 0 e.weight (let z : e.weight ≤ 0 = omega arith in z)) h
+    go (yes l) h = rw (ne_eqb e.weight 0 (λ z. omega arith), lt-ltb 0 e.weight l) (ap (λ (x : List Row). row_below e ∷ x) h)
+    go (no l) h = rw (eq-eqb e.weight 0 (let z : e.weight ≡ 0 = omega arith in z), le-ltb 0 e.weight (let z : e.weight ≤ 0 = omega arith in z)) h
 
 pub all_held : (es : List Edge) → All (λ e. Held (row_below e) (map row_below es)) es
 all_held [] = tt
@@ -212,7 +212,7 @@ module _ (n : ℕ) (f : Children) (each : (i : ℕ) → count i (taxa_of f) ≡ 
       small false = omega arith
 
   pub low : (i : ℕ) → n ≤ i → count i (taxa_of f) ≡ 0
-  low i l = each i ∙ rw (le_ltb i n l)
+  low i l = each i ∙ rw (le-ltb i n l)
 
   pub taxa_good : Good n [] (taxa_of f)
   taxa_good = good_count n [] (taxa_of f) (λ i. omega (arith, once i, count_none i)) low
@@ -221,4 +221,4 @@ module _ (n : ℕ) (f : Children) (each : (i : ℕ) → count i (taxa_of f) ≡ 
   taxa_all x l = among_some x (taxa_of f) (omega (arith, each x, here))
     where
       here : ◌≡◌ {A = ℕ} (cond (ltb x n) 1 0) 1
-      here = rw (lt_ltb x n l)
+      here = rw (lt-ltb x n l)

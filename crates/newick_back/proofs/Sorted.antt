@@ -7,7 +7,7 @@ use mathlib.Core.Logic.{◌⊎◌, inl, inr}
 use mathlib.Core.Bool.{Bool, true, false, cond}
 use mathlib.Core.List.{List, [], ◌∷◌, ◌++◌}
 use lib.Dec.{leb, eqb}
-use borrow.Author.Tests.{eq_eqb, ne_eqb, leb_true, leb_false}
+use borrow.Author.Tests.{eq-eqb, ne_eqb, leb-true, leb-false}
 use Rattle.statement.specs.Rows.{Row, row, clusters, Ascending}
 use Rattle.statement.specs.Tree.{insert_row, sort_rows}
 use Rattle.statement.proofs.Listed.{asc_mem}
@@ -48,8 +48,8 @@ insert_level low r [] l h = (l, tt)
 insert_level low r (x ∷ xs) l h = go (leb r.cluster x.cluster) refl (λ k. insert_level x.cluster r xs k h.1)
   where
     go : (b : Bool) → leb r.cluster x.cluster ≡ b → (x.cluster ≤ r.cluster → Level x.cluster (insert_row r xs)) → Level low (cond b (r ∷ (x ∷ xs)) (x ∷ insert_row r xs))
-    go true e ih = (l, (leb_true r.cluster x.cluster e, h.1))
-    go false e ih = (h.0, ih (let k = leb_false r.cluster x.cluster e in omega (arith, k)))
+    go true e ih = (l, (leb-true r.cluster x.cluster e, h.1))
+    go false e ih = (h.0, ih (let k = leb-false r.cluster x.cluster e in omega (arith, k)))
 
 sort_level : (xs : List Row) → Level 0 (sort_rows xs)
 unfolding sort_rows
@@ -65,14 +65,14 @@ abbrev same : Row → Row → ℕ
 same r x = cond (eqb x.cluster r.cluster) (cond (eqb x.weight r.weight) 1 0) 0
 
 same_own : (r : Row) → same r r ≡ 1
-same_own r = rw (eq_eqb r.cluster r.cluster refl, eq_eqb r.weight r.weight refl)
+same_own r = rw (eq-eqb r.cluster r.cluster refl, eq-eqb r.weight r.weight refl)
 
 same_or : (r x : Row) → (r ≡ x) ⊎ (same r x ≡ 0)
 same_or r x = go (ℕ_discrete x.cluster r.cluster) (ℕ_discrete x.weight r.weight)
   where
     go : Dec (x.cluster ≡ r.cluster) → Dec (x.weight ≡ r.weight) → (r ≡ x) ⊎ (same r x ≡ 0)
     go (yes e) (yes f) = inl (ap₂ row (sym e) (sym f))
-    go (yes e) (no f) = inr (rw (eq_eqb x.cluster r.cluster e, ne_eqb x.weight r.weight f))
+    go (yes e) (no f) = inr (rw (eq-eqb x.cluster r.cluster e, ne_eqb x.weight r.weight f))
     go (no e) d = inr (rw (ne_eqb x.cluster r.cluster e))
 
 held_of : (r : Row) (xs : List Row) → 0 < row_total (same r) xs → Held r xs

@@ -4,9 +4,9 @@ use native.Mathlib.Omega.{arith}
 use mathlib.Core.Path.{◌≡◌, refl, sym, ◌∙◌, ap, ap₂, subst}
 use mathlib.Core.Logic.{inl, inr}
 use mathlib.Core.Bool.{false}
-use mathlib.Core.List.{List, [], ◌∷◌, ◌++◌, map, append_assoc, append_nil}
+use mathlib.Core.List.{List, [], ◌∷◌, ◌++◌, map, append_assoc, append-nil}
 use lib.Dec.{eqb}
-use lib.ListN.{length, length_append, length_map}
+use lib.ListN.{length, length-append, length-map}
 use Rattle.statement.specs.Rows.{Row, row, Mem}
 use Rattle.statement.specs.Sentence.{Children, leaf, group, numeral_text, children_text, Fits, value, taxa_of}
 use Rattle.statement.specs.Decimal.{decimal}
@@ -39,7 +39,7 @@ pub data Bunch (xs : List (List ℕ)) (E : List Row) (T : List ℕ) (l : ℕ) : 
 
 one_led : (b : ℕ) (x s : List ℕ) → led b (x ∷ []) ++ s ≡ b ∷ (x ++ s)
 unfolding led
-one_led b x s = ap (λ (y : List ℕ). b ∷ (y ++ s)) (append_nil x)
+one_led b x s = ap (λ (y : List ℕ). b ∷ (y ++ s)) (append-nil x)
 
 more_led : (b : ℕ) (x s : List ℕ) (xs : List (List ℕ)) → led b (x ∷ xs) ++ s ≡ b ∷ (x ++ (led 44 xs ++ s))
 unfolding led
@@ -49,7 +49,7 @@ bunch_more : {x : List ℕ} {xs : List (List ℕ)} {E E' : List Row} {T T' : Lis
 bunch_more {x} {xs} {E} {E'} {T} {T'} r (none p q u) =
     some r.kids r.fits
     (λ b s. ap (λ (ys : List (List ℕ)). led b (x ∷ ys) ++ s) p ∙ one_led b x s ∙ ap (λ (y : List ℕ). b ∷ y) (sym (r.text s)))
-    (r.edges ∙ sym (append_nil E) ∙ ap (λ (y : List Row). E ++ y) (sym q)) (r.taxa ∙ sym (append_nil T) ∙ ap (λ (y : List ℕ). T ++ y) (sym u))
+    (r.edges ∙ sym (append-nil E) ∙ ap (λ (y : List Row). E ++ y) (sym q)) (r.taxa ∙ sym (append-nil T) ∙ ap (λ (y : List ℕ). T ++ y) (sym u))
 bunch_more {x} {xs} {E} {E'} {T} {T'} {l} r (some f fit e q u) =
     some (join r.kids f) (join_fits r.kids f l r.fits fit)
     (λ b s. more_led b x s xs ∙ ap (λ (y : List ℕ). b ∷ (x ++ y)) (e 44 s)
@@ -137,7 +137,7 @@ module _ (t : Shape) where
   inside v off ih =
       subst (λ (T : List ℕ). Bunch (items t (vertex_text t) v) (edges_in t v) T v) taxa
       (subst (λ (E : List Row). Bunch (items t (vertex_text t) v) E own_taxa v) edges
-      (subst (λ (xs : List (List ℕ)). Bunch (map leaf_text (homed t v) ++ xs) own_edges own_taxa v) (append_nil (map (child_text t (vertex_text t)) (children t v)))
+      (subst (λ (xs : List (List ℕ)). Bunch (map leaf_text (homed t v) ++ xs) own_edges own_taxa v) (append-nil (map (child_text t (vertex_text t)) (children t v)))
       (bunch_all leaf_text (λ i. leaf_edge i ∷ []) (λ i. i ∷ []) v (homed t v) (λ i _. leaf_reads i 0 v) _ _ _
       (bunch_all (child_text t (vertex_text t)) (λ c. edges_in t c ++ (edge_at t c ∷ [])) (taxa_in t) v (children t v)
       (λ c m. let q = (those_of (λ d. eqb (t.link d) v) 0 v c m).high in reads_more (suc c) v (omega arith) (ih c (omega arith))) [] [] [] (none refl refl refl)))))
@@ -150,20 +150,20 @@ module _ (t : Shape) where
 
       edges : own_edges ≡ edges_in t v
       edges =
-          ap (λ (l : List Row). gathered (λ i. leaf_edge i ∷ []) (homed t v) ++ l) (append_nil (gathered (λ c. edges_in t c ++ (edge_at t c ∷ [])) (children t v)))
+          ap (λ (l : List Row). gathered (λ i. leaf_edge i ∷ []) (homed t v) ++ l) (append-nil (gathered (λ c. edges_in t c ++ (edge_at t c ∷ [])) (children t v)))
           ∙ sym (edges_is t v ∙ rw off)
 
       taxa : own_taxa ≡ taxa_in t v
-      taxa = ap₂ (λ (xs ys : List ℕ). xs ++ ys) (singles (homed t v)) (append_nil (gathered (taxa_in t) (children t v))) ∙ sym (taxa_is t v)
+      taxa = ap₂ (λ (xs ys : List ℕ). xs ++ ys) (singles (homed t v)) (append-nil (gathered (taxa_in t) (children t v))) ∙ sym (taxa_is t v)
 
   no_items : (v : ℕ) → 0 < length (homed t v) + length (children t v) → items t (vertex_text t) v ≡ [] → ⊥
   no_items v h e =
       omega (
         arith,
         ap length e,
-        length_append (map leaf_text (homed t v)) (map (child_text t (vertex_text t)) (children t v)),
-        length_map (homed t v) leaf_text,
-        length_map (children t v) (child_text t (vertex_text t)),
+        length-append (map leaf_text (homed t v)) (map (child_text t (vertex_text t)) (children t v)),
+        length-map (homed t v) leaf_text,
+        length-map (children t v) (child_text t (vertex_text t)),
       )
 
   module _ (full : (v : ℕ) → v ≤ t.edges → 0 < length (homed t v) + length (children t v)) where

@@ -7,7 +7,7 @@ use mathlib.Core.Logic.{◌⊎◌, inl, inr, ⊎_elim, ◌↔◌}
 use mathlib.Core.Bool.{Bool, true, false, cond, not, ◌||◌, true≢false}
 use mathlib.Core.List.{List, [], ◌∷◌, ◌++◌, map}
 use lib.Dec.{ltb, eqb}
-use borrow.Author.Tests.{eq_eqb, ne_eqb, le_ltb, ltb_false}
+use borrow.Author.Tests.{eq-eqb, ne_eqb, le-ltb, ltb-false}
 use Rattle.statement.specs.Rows.{Mem}
 use Rattle.statement.specs.Sentence.{Leaf, Edge, among, split_made, clusters_of, kept_edges}
 use Rattle.statement.specs.Refusals.{strays, places_of, twins}
@@ -54,10 +54,10 @@ off_is n x seen e = ⊎_elim (λ h. inl (low (ltb x n) refl h)) (λ h. inr (amon
   where
     low : (b : Bool) → ltb x n ≡ b → not b ≡ true → n ≤ x
     low true h e = absurd (true≢false (sym e))
-    low false h e = ltb_false x n h
+    low false h e = ltb-false x n h
 
 off_so : (n x : ℕ) (seen : List ℕ) → (n ≤ x) ⊎ Mem x seen → (not (ltb x n) || among x seen) ≡ true
-off_so n x seen (inl l) = or_left (not (ltb x n)) (among x seen) (ap not (le_ltb x n l))
+off_so n x seen (inl l) = or_left (not (ltb x n)) (among x seen) (ap not (le-ltb x n l))
 off_so n x seen (inr m) = or_right (not (ltb x n)) (among x seen) (mem_among x seen m)
 
 one_further : (n : ℕ) (seen : List ℕ) (l : Leaf) (ls : List Leaf) (p : ℕ) → AstrayFrom n (l.taxon ∷ seen) ls p → AstrayFrom n seen (l ∷ ls) p
@@ -126,7 +126,7 @@ above w e = go (dec_lt 0 w)
   where
     go : Dec (0 < w) → 1 ≤ w
     go (yes l) = l
-    go (no l) = absurd (true≢false (sym (eq_eqb w 0 (let z : w ≡ 0 = omega arith in z)) ∙ e))
+    go (no l) = absurd (true≢false (sym (eq-eqb w 0 (let z : w ≡ 0 = omega arith in z)) ∙ e))
 
 module _ (e : Edge) where
   there_by : (x : Edge) (xs : List Edge) (b : Bool) → eqb x.weight 0 ≡ b → (OneOf e (kept_edges xs) → OneOf e xs × (1 ≤ e.weight))

@@ -8,7 +8,7 @@ use mathlib.Core.Bool.{Bool, true, false, ◌||◌}
 use mathlib.Core.List.{List, ◌++◌}
 use lib.Dec.{eqb}
 use lib.ListN.{length}
-use borrow.Author.Tests.{eq_eqb, ne_eqb, eqb_true}
+use borrow.Author.Tests.{eq-eqb, ne_eqb, eqb-true}
 use Rattle.statement.specs.declared.Splits.{Splits}
 use Rattle.statement.specs.declared.Reading.{Reading}
 use Rattle.statement.specs.declared.Outcome.TheVariants.{Done, Refused}
@@ -66,14 +66,14 @@ nineteen n text k = (
 )
   where
     back : (k : ℕ) → Fails (grammar_off k) 19 k
-    back k = record { named = refl; within = omega arith; bad = rw (eq_eqb k k refl); lowest = λ i l. rw (ne_eqb i k (λ e. omega arith)) }
+    back k = record { named = refl; within = omega arith; bad = rw (eq-eqb k k refl); lowest = λ i l. rw (ne_eqb i k (λ e. omega arith)) }
 
     there : (p : Parsed) → Parses text p → Given (newick_checks n p) 19 k → (2 ≤ n) × (n ≤ 64) × FirstBad text k
     there p is (inl a) = absurd (omega (arith, a.named))
     there (sentence f) is (inr (q, g)) = absurd (not_19 n f k g)
     there (outside j) is (inr (q, inl a)) =
         let (two, few) = (taxa_passed n).0 q in
-        let same : k ≡ j = eqb_true k j (or_false (eqb k j) a.bad) in
+        let same : k ≡ j = eqb-true k j (or_false (eqb k j) a.bad) in
         (two, few, subst (FirstBad text) (sym same) is)
     there (outside j) is (inr (q, inr (r, g))) = absurd g
 

@@ -5,7 +5,7 @@ use mathlib.Core.List.{List, [], ◌∷◌, ◌++◌, append_assoc}
 use Prim.Native.Nat.{ℕ, zero, suc, ◌+◌, ◌-◌, ◌*◌, ◌/◌, ◌%◌, ◌≤◌, ◌<◌}
 use native.Mathlib.Omega.{arith}
 use native.Mathlib.Decide.{dec_lt}
-use borrow.Author.Tests.{lt_ltb, le_ltb}
+use borrow.Author.Tests.{lt-ltb, le-ltb}
 use Rattle.statement.specs.Decimal.{digit, decimal, decimal_by, on_from}
 use Rattle.newick_text.proofs.Laws.{digit_yes}
 use Rattle.statement.specs.Sentence.{Digits, none, more, Numeral, nought, lead, digits_text, numeral_text}
@@ -37,11 +37,11 @@ glyph d h = digit_yes (48 + d) (omega arith) (omega arith)
 
 fuel_all : (k n : ℕ) → AllDigits (decimal_by k n)
 fuel_all zero n = (glyph (n % 10) (omega arith), tt)
-fuel_all (suc k) n = elim (dec_lt n 10) [ yes p ↦ rw (lt_ltb n 10 p) (glyph n p, tt) | no f ↦ rw (le_ltb n 10 (let e : 10 ≤ n = omega arith in e)) (all_append (decimal_by k (n / 10)) ((48 + n % 10) ∷ []) (fuel_all k (n / 10)) (glyph (n % 10) (omega arith), tt)) ]
+fuel_all (suc k) n = elim (dec_lt n 10) [ yes p ↦ rw (lt-ltb n 10 p) (glyph n p, tt) | no f ↦ rw (le-ltb n 10 (let e : 10 ≤ n = omega arith in e)) (all_append (decimal_by k (n / 10)) ((48 + n % 10) ∷ []) (fuel_all k (n / 10)) (glyph (n % 10) (omega arith), tt)) ]
 
 fuel_value : (k n : ℕ) → n ≤ k → foldv 0 (decimal_by k n) ≡ n
 fuel_value zero n h = omega arith
-fuel_value (suc k) n h = elim (dec_lt n 10) [ yes p ↦ rw (lt_ltb n 10 p) (let e : 10 * 0 + (48 + n - 48) ≡ n = omega arith in e) | no f ↦ rw (le_ltb n 10 (let e : 10 ≤ n = omega arith in e)) (fold_append (decimal_by k (n / 10)) ((48 + n % 10) ∷ []) 0 ∙ last (fuel_value k (n / 10) (omega arith))) ]
+fuel_value (suc k) n h = elim (dec_lt n 10) [ yes p ↦ rw (lt-ltb n 10 p) (let e : 10 * 0 + (48 + n - 48) ≡ n = omega arith in e) | no f ↦ rw (le-ltb n 10 (let e : 10 ≤ n = omega arith in e)) (fold_append (decimal_by k (n / 10)) ((48 + n % 10) ∷ []) 0 ∙ last (fuel_value k (n / 10) (omega arith))) ]
   where
     last : foldv 0 (decimal_by k (n / 10)) ≡ n / 10 → 10 * foldv 0 (decimal_by k (n / 10)) + (48 + n % 10 - 48) ≡ n
     last e = omega arith

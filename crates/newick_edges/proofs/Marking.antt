@@ -4,7 +4,7 @@ use native.Mathlib.Omega.{arith}
 use mathlib.Core.Path.{◌≡◌, refl, sym, ◌∙◌}
 use mathlib.Core.Bool.{Bool, true, false, ◌&&◌, false≢true}
 use lib.Dec.{ltb, eqb}
-use borrow.Author.Tests.{lt_ltb, le_ltb, ltb_true, eqb_true, eq_eqb, ne_eqb}
+use borrow.Author.Tests.{lt-ltb, le-ltb, ltb-true, eqb-true, eq-eqb, ne_eqb}
 use Rattle.statement.specs.Cluster.{bit}
 use Rattle.statement.proofs.Bits.{bit_zero, bit_suc}
 use Rattle.newick_edges.specs.declared.Met.{Met}
@@ -20,15 +20,15 @@ pub fresh_parts : (n seen x : ℕ) → fresh n seen x ≡ true → (x < n) × (b
 fresh_parts n seen x e = go (ltb x n) (eqb (bit seen x) 0) refl refl e
   where
     go : (a b : Bool) → ltb x n ≡ a → eqb (bit seen x) 0 ≡ b → a && b ≡ true → (x < n) × (bit seen x ≡ 0)
-    go true true p q e = (ltb_true x n p, eqb_true (bit seen x) 0 q)
+    go true true p q e = (ltb-true x n p, eqb-true (bit seen x) 0 q)
     go true false p q e = absurd (false≢true e)
     go false b p q e = absurd (false≢true e)
 
 pub not_below : (n seen x : ℕ) → n ≤ x → false ≡ fresh n seen x
-not_below n seen x h = rw (le_ltb x n h)
+not_below n seen x h = rw (le-ltb x n h)
 
 pub is_below : (n seen x : ℕ) → x < n → eqb (bit seen x) 0 ≡ fresh n seen x
-is_below n seen x h = rw (lt_ltb x n h)
+is_below n seen x h = rw (lt-ltb x n h)
 
 pub meets : (n : ℕ) (m : Met) (place x : ℕ) → fresh n m.seen x ≡ true → record { seen = m.seen + 2 ^ x; stray = m.stray } ≡ meet n m place x
 unfolding meet
@@ -48,7 +48,7 @@ mask_none n seen x e = rw e
 
 pub side_same : (n below : ℕ) → below % 2 ≡ 0 → below ≡ side n below
 unfolding side
-side_same n below e = rw (eq_eqb (bit below 0) 0 (bit_zero below ∙ e))
+side_same n below e = rw (eq-eqb (bit below 0) 0 (bit_zero below ∙ e))
 
 pub side_other : (n below : ℕ) → (below % 2 ≡ 0 → ⊥) → 2 ^ n - 1 - below ≡ side n below
 unfolding side

@@ -4,8 +4,8 @@ use Prim.Native.Nat.{ℕ}
 use native.Mathlib.Omega.{arith}
 use mathlib.Core.Path.{◌≡◌, refl, sym, ◌∙◌, ap}
 use mathlib.Core.List.{List, [], ◌++◌}
-use lib.ListN.{length, take, length_append}
-use lib.Seq.{take_append_seam}
+use lib.ListN.{length, take, length-append}
+use lib.Seq.{take-append_seam}
 use Rattle.io.specs.Counts.{IsPrefixLen}
 use Rattle.statement.specs.declared.Splits.{Splits}
 use Rattle.statement.specs.declared.Outcome.{Outcome}
@@ -68,5 +68,5 @@ text_done n text not = by_cases _ (reading_short (outcome_of (newick_checks n (p
 -- what was put at the start of a slice, whatever follows
 pub at_start : (k : ℕ) (put rest whole : List ℕ) → put ≡ whole → length put ≡ k → (take k (put ++ rest) ≡ whole) × IsPrefixLen k (put ++ rest)
 at_start k put rest whole e l =
-    let front : take k (put ++ rest) ≡ put = ap (λ (m : ℕ). take m (put ++ rest)) (sym l) ∙ take_append_seam put rest in
-    (front ∙ e, (omega (arith, length_append put rest), sym (ap length front ∙ l)))
+    let front : take k (put ++ rest) ≡ put = ap (λ (m : ℕ). take m (put ++ rest)) (sym l) ∙ take-append_seam put rest in
+    (front ∙ e, (omega (arith, length-append put rest), sym (ap length front ∙ l)))

@@ -1,14 +1,14 @@
 -- The text of a tree of at most 64 taxa and 125 edges is short. Assumes nothing.
 use Prim.Native.Nat.{ℕ, zero, suc, ◌+◌, ◌-◌, ◌/◌, ◌^◌, ◌≤◌, ◌<◌}
 use native.Mathlib.Omega.{arith}
-use native.Mathlib.Nat.{pow_suc}
+use native.Mathlib.Nat.{pow-suc}
 use native.Mathlib.Decide.{dec_lt}
 use mathlib.Core.Path.{◌≡◌, refl, ◌∙◌, ap}
 use mathlib.Core.Logic.{◌↔◌}
 use mathlib.Core.Bool.{Bool, true, false, cond}
 use mathlib.Core.List.{List, [], ◌∷◌, ◌++◌, map}
 use lib.Dec.{eqb}
-use lib.ListN.{length, get_or, length_append}
+use lib.ListN.{length, get_or, length-append}
 use Rattle.statement.specs.Decimal.{decimal}
 use Rattle.newick_digits.proofs.Decimal.{len_one, len_more}
 use Rattle.statement.proofs.Tests.{less_is, same_is, both_is}
@@ -24,7 +24,7 @@ short (suc k) n h = at (dec_lt n 10) (λ x l. short k x l)
   where
     at : Dec (n < 10) → ((x : ℕ) → x < 10 ^ suc k → length (decimal x) ≤ suc k) → length (decimal n) ≤ suc (suc k)
     at (yes l) ih = omega (arith, len_one n l)
-    at (no l) ih = omega (arith, len_more n (omega arith), ih (n / 10) (omega (arith, pow_suc 10 (suc k))))
+    at (no l) ih = omega (arith, len_more n (omega arith), ih (n / 10) (omega (arith, pow-suc 10 (suc k))))
 
 pub ten_digits : (n : ℕ) → n < 10000000000 → length (decimal n) ≤ 10
 ten_digits n h = short 9 n h
@@ -34,12 +34,12 @@ led_total : (f : ℕ → List ℕ) (b : ℕ) (xs : List ℕ) (ys : List (List �
 unfolding led total
 led_total f b [] [] = omega arith
 led_total f b [] (y ∷ ys) = omega arith
-led_total f b (x ∷ xs) ys = omega (arith, length_append (f x) (led 44 (map f xs ++ ys)), led_total f 44 xs ys)
+led_total f b (x ∷ xs) ys = omega (arith, length-append (f x) (led 44 (map f xs ++ ys)), led_total f 44 xs ys)
 
 led_all : (f : ℕ → List ℕ) (xs : List ℕ) → length (led 44 (map f xs)) ≡ total (λ i. length (f i) + 1) xs
 unfolding led total
 led_all f [] = refl
-led_all f (x ∷ xs) = omega (arith, length_append (f x) (led 44 (map f xs)), led_all f xs)
+led_all f (x ∷ xs) = omega (arith, length-append (f x) (led 44 (map f xs)), led_all f xs)
 
 -- alone: one taxon and no child
 pub alone_is : (t : Shape) (v : ℕ) → (unbracketed t v ≡ true) ↔ (((v < t.edges) × (length (homed t v) ≡ 1)) × (length (children t v) ≡ 0))
@@ -96,13 +96,13 @@ module _ (t : Shape) (tree : Rooted t) (taxa : t.taxa ≤ 64) (edges : t.edges �
   item_size : (xs : List ℕ) → total (λ c. length (child_text t (vertex_text t) c) + 1) xs ≡ total (λ c. size c + link_size c) xs
   unfolding total
   item_size [] = refl
-  item_size (x ∷ xs) = omega (arith, item_size xs, length_append (vertex_text t x) (58 ∷ decimal (t.weight x)))
+  item_size (x ∷ xs) = omega (arith, item_size xs, length-append (vertex_text t x) (58 ∷ decimal (t.weight x)))
 
   bracket_size : (v : ℕ) → length (bracketed (items t (vertex_text t) v)) ≡ own_size v + kids_size v + 1
   bracket_size v =
       omega (
         arith,
-        length_append (led 40 (items t (vertex_text t) v)) (41 ∷ []),
+        length-append (led 40 (items t (vertex_text t) v)) (41 ∷ []),
         led_total leaf_text 40 (homed t v) (map (child_text t (vertex_text t)) (children t v)),
         led_all (child_text t (vertex_text t)) (children t v),
         item_size (children t v),
@@ -113,7 +113,7 @@ module _ (t : Shape) (tree : Rooted t) (taxa : t.taxa ≤ 64) (edges : t.edges �
       omega (
         arith,
         total_most (λ i. length (leaf_text i) + 1) (λ i. eqb (t.home i) v) 5 0 t.taxa
-            (λ i _ l. omega (arith, length_append (decimal i) (58 ∷ decimal 0), short 1 i (omega arith), len_one 0 (omega arith))),
+            (λ i _ l. omega (arith, length-append (decimal i) (58 ∷ decimal 0), short 1 i (omega arith), len_one 0 (omega arith))),
       )
 
   none : (v : ℕ) → children t v ≡ [] → kids_size v ≡ 0

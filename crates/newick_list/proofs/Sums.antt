@@ -1,13 +1,13 @@
 -- Sums over the vertices of a tree: what each vertex has of its own and by its children is, at the root, what all vertices have. Assumes nothing.
 use Prim.Native.Nat.{ℕ, zero, suc, ◌+◌, ◌*◌, ◌-◌, ◌≤◌, ◌<◌}
 use native.Mathlib.Omega.{arith}
-use native.Mathlib.Nat.{suc_mul}
+use native.Mathlib.Nat.{suc-mul}
 use native.Mathlib.Decide.{dec_lt, ℕ_discrete}
 use mathlib.Core.Path.{◌≡◌, refl, sym, ◌∙◌, ap}
 use mathlib.Core.Bool.{Bool, true, false, cond}
 use mathlib.Core.List.{List, [], ◌∷◌, ◌++◌}
 use lib.Dec.{leb, eqb}
-use borrow.Author.Tests.{eq_eqb, ne_eqb, le_leb, lt_leb}
+use borrow.Author.Tests.{eq-eqb, ne_eqb, le-leb, lt-leb}
 use Rattle.statement.specs.NewickText.{Shape, those_from, children}
 
 -- what a function gives on a list, added up
@@ -74,7 +74,7 @@ below_add f g p (suc j) =
 pub total_most : (f : ℕ → ℕ) (p : ℕ → Bool) (k i m : ℕ) → ((j : ℕ) → i ≤ j → j < i + m → f j ≤ k) → total f (those_from p i m) ≤ m * k
 total_most f p k i zero h = omega (arith, total_none f p i)
 total_most f p k i (suc m) h =
-    omega (arith, total_first f p i m, total_most f p k (suc i) m (λ j a l. h j (omega arith) (omega arith)), suc_mul m k, at (p i) (h i (omega arith) (omega arith)))
+    omega (arith, total_first f p i m, total_most f p k (suc i) m (λ j a l. h j (omega arith) (omega arith)), suc-mul m k, at (p i) (h i (omega arith) (omega arith)))
   where
     at : (b : Bool) → f i ≤ k → cond b (f i) 0 ≤ k
     at true l = l
@@ -87,9 +87,9 @@ module _ (f link : ℕ → ℕ) where
     where
       at : Dec (link c ≡ j) → Dec (j < link c) → cond (leb j (link c)) (f c) 0 ≡ cond (eqb (link c) j) (f c) 0 + cond (leb (suc j) (link c)) (f c) 0
       at (yes e) d =
-          rw (le_leb j (link c) (let h : j ≤ link c = omega arith in h), eq_eqb (link c) j e, lt_leb (suc j) (link c) (let h : link c < suc j = omega arith in h)) (omega arith)
-      at (no n) (yes l) = rw (le_leb j (link c) (let h : j ≤ link c = omega arith in h), ne_eqb (link c) j n, le_leb (suc j) (link c) (let h : suc j ≤ link c = omega arith in h)) (omega arith)
-      at (no n) (no l) = rw (lt_leb j (link c) (let h : link c < j = omega (arith, n, l) in h), ne_eqb (link c) j n, lt_leb (suc j) (link c) (let h : link c < suc j = omega arith in h)) (omega arith)
+          rw (le-leb j (link c) (let h : j ≤ link c = omega arith in h), eq-eqb (link c) j e, lt-leb (suc j) (link c) (let h : link c < suc j = omega arith in h)) (omega arith)
+      at (no n) (yes l) = rw (le-leb j (link c) (let h : j ≤ link c = omega arith in h), ne_eqb (link c) j n, le-leb (suc j) (link c) (let h : suc j ≤ link c = omega arith in h)) (omega arith)
+      at (no n) (no l) = rw (lt-leb j (link c) (let h : link c < j = omega (arith, n, l) in h), ne_eqb (link c) j n, lt-leb (suc j) (link c) (let h : link c < suc j = omega arith in h)) (omega arith)
 
   split : (j b : ℕ) → below f (λ c. leb j (link c)) b ≡ below f (λ c. eqb (link c) j) b + below f (λ c. leb (suc j) (link c)) b
   split j zero = omega (arith, below_zero f (λ c. leb j (link c)), below_zero f (λ c. eqb (link c) j), below_zero f (λ c. leb (suc j) (link c)))
@@ -99,7 +99,7 @@ module _ (f link : ℕ → ℕ) where
   none_above : (j b : ℕ) → ((c : ℕ) → c < b → link c < j) → below f (λ c. leb j (link c)) b ≡ 0
   none_above j zero h = below_zero f (λ c. leb j (link c))
   none_above j (suc b) h =
-      let off : cond (leb j (link b)) (f b) 0 ≡ 0 = rw (lt_leb j (link b) (h b (omega arith))) in
+      let off : cond (leb j (link b)) (f b) 0 ≡ 0 = rw (lt-leb j (link b) (h b (omega arith))) in
       omega (arith, below_suc f (λ c. leb j (link c)) b, none_above j b (λ c l. h c (omega arith)), off)
 
 -- A TREE: every link is a later vertex or the root
@@ -119,7 +119,7 @@ module _ (t : Shape) (tree : Rooted t) (g a b : ℕ → ℕ) (parts : (v : ℕ) 
   open_sum : (j : ℕ) → j ≤ t.edges → below each (λ c. leb j (t.link c)) j ≡ below (λ c. a c + b c) every j
   open_sum zero l = below_zero each (λ c. leb 0 (t.link c)) ∙ sym (below_zero (λ c. a c + b c) every)
   open_sum (suc j) l =
-      let own : cond (leb (suc j) (t.link j)) (g j + b j) 0 ≡ g j + b j = rw (le_leb (suc j) (t.link j) (tree.later j (omega arith))) in
+      let own : cond (leb (suc j) (t.link j)) (g j + b j) 0 ≡ g j + b j = rw (le-leb (suc j) (t.link j) (tree.later j (omega arith))) in
       omega (
         arith,
         below_suc each (λ c. leb (suc j) (t.link c)) j,

@@ -4,8 +4,8 @@ use mathlib.Core.Bool.{Bool, true, false, cond}
 use mathlib.Core.List.{List, [], ◌∷◌}
 use Prim.Native.Nat.{ℕ, suc, ◌+◌, ◌-◌, ◌*◌, ◌≤◌, ◌<◌}
 use native.Mathlib.Omega.{arith}
-use lib.ListN.{length, drop, get_or, length_drop}
-use lib.Seq.{drop_drop, get_or_drop, drop_cons}
+use lib.ListN.{length, drop, get_or, length-drop}
+use lib.Seq.{drop-drop, get_or-drop, drop-cons}
 use Rattle.statement.specs.Decimal.{digit, on_from, span}
 use Rattle.statement.specs.Sentence.{Digits, none, more, Numeral, nought, lead, digits_text, numeral_text, value, width}
 
@@ -59,7 +59,7 @@ module _ (t s : List ℕ) (at c : ℕ) (x : Numeral) (d : digit c ≡ false) (e 
   span_at = ap span e ∙ num_span x c s d
 
   pub past_at : drop (at + width x) t ≡ c ∷ s
-  past_at = sym (drop_drop (width x) at t) ∙ ap (drop (width x)) e ∙ num_drop x c s d
+  past_at = sym (drop-drop (width x) at t) ∙ ap (drop (width x)) e ∙ num_drop x c s d
 
 pub span_le : (s : List ℕ) → span s ≤ length s
 unfolding span
@@ -71,15 +71,15 @@ span_le (c ∷ s) = by (digit c) (span_le s)
     by false h = omega arith
 
 pub span_in : (t : List ℕ) (at : ℕ) → at ≤ length t → at + span (drop at t) ≤ length t
-span_in t at h = omega (arith, span_le (drop at t), length_drop at t)
+span_in t at h = omega (arith, span_le (drop at t), length-drop at t)
 
 -- a digit is a byte of it
 pub span_some : (t : List ℕ) (at c : ℕ) → c ≡ get_or t at 256 → digit c ≡ true → at < length t → 0 < span (drop at t)
 unfolding span
-span_some t at c e d h = rw (drop_cons t at 256 h, sym e, d) (omega arith)
+span_some t at c e d h = rw (drop-cons t at 256 h, sym e, d) (omega arith)
 
 pub past_one : (t s : List ℕ) (at c : ℕ) → drop at t ≡ c ∷ s → drop (at + 1) t ≡ s
-past_one t s at c e = sym (drop_drop 1 at t) ∙ ap (drop 1) e
+past_one t s at c e = sym (drop-drop 1 at t) ∙ ap (drop 1) e
 
 pub head_is : (t s : List ℕ) (at c : ℕ) → drop at t ≡ c ∷ s → get_or t at 256 ≡ c
-head_is t s at c e = ap (λ (k : ℕ). get_or t k 256) (let h : at ≡ at + 0 = omega arith in h) ∙ sym (get_or_drop at t 0 256) ∙ ap (λ (u : List ℕ). get_or u 0 256) e
+head_is t s at c e = ap (λ (k : ℕ). get_or t k 256) (let h : at ≡ at + 0 = omega arith in h) ∙ sym (get_or-drop at t 0 256) ∙ ap (λ (u : List ℕ). get_or u 0 256) e

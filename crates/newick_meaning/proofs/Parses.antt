@@ -3,7 +3,7 @@ use Prim.Native.Nat.{ℕ, suc, ◌-◌, ◌≤◌}
 use native.Mathlib.Omega.{arith}
 use mathlib.Core.Path.{◌≡◌, refl, sym, ◌∙◌, ap, subst}
 use mathlib.Core.List.{List, [], ◌∷◌}
-use lib.ListN.{length, drop, length_drop}
+use lib.ListN.{length, drop, length-drop}
 use Rattle.newick_text.specs.Automaton.{State, Step, stop, end, move, Out, bad, good, start, next, pick, run}
 use Rattle.statement.specs.Sentence.{Children, children_text, Fits, Parses, outside, sentence}
 use Rattle.newick_text.proofs.Sound.{sound}
@@ -35,7 +35,7 @@ unfolding parsed parsed_by
 parsed_bad text k l g = go (run text (start 130)) refl g
   where
     go : (o : Out) (e : run text (start 130) ≡ o) → o ≡ bad (drop k text) → parsed_by text o e ≡ outside k
-    go (bad r) e h = let q : r ≡ drop k text = bad_bad h in ap outside (let z : length text - length r ≡ k = omega (arith, ap length q, length_drop k text) in z)
+    go (bad r) e h = let q : r ≡ drop k text = bad_bad h in ap outside (let z : length text - length r ≡ k = omega (arith, ap length q, length-drop k text) in z)
     go (good r) e h = bad_good (sym h)
 
 -- where reading stops is a place of the text

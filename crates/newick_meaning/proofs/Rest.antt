@@ -3,7 +3,7 @@ use native.Mathlib.Omega.{arith}
 use Prim.Native.Nat.{ℕ}
 use mathlib.Core.Path.{◌≡◌, refl, sym, ◌∙◌, ap, ap₂}
 use mathlib.Core.List.{List, [], ◌∷◌, ◌++◌}
-use lib.ListN.{length, take, length_append}
+use lib.ListN.{length, take, length-append}
 use lib.Seq.{take_at}
 use Rattle.statement.specs.Grammar.{IsSentence}
 use Rattle.statement.specs.Sentence.{Digits, none, more, Numeral, nought, lead, Children, leaf, group, leaf_then, group_then, digits_text, numeral_text, children_text}
@@ -38,7 +38,7 @@ cancel : (s t r : List ℕ) → s ++ r ≡ t ++ r → s ≡ t
 cancel s t r e = sym (take_at s r (length s) refl) ∙ ap₂ take (same_length) e ∙ take_at t r (length t) refl
   where
     same_length : length s ≡ length t
-    same_length = omega (arith, ap length e, length_append s r, length_append t r)
+    same_length = omega (arith, ap length e, length-append s r, length-append t r)
 
 ends : (f : Children) (s r : List ℕ) → s ++ r ≡ 40 ∷ children_text f (41 ∷ 59 ∷ r) → 40 ∷ children_text f (41 ∷ 59 ∷ []) ≡ s
 ends f s r e =

@@ -2,7 +2,7 @@
 use Prim.Native.Nat.{ℕ, ◌+◌, ◌<◌}
 use mathlib.Core.Path.{◌≡◌, refl, sym, ◌∙◌, ap, ap₂}
 use mathlib.Core.Bool.{Bool, true, false, cond, not, ◌||◌}
-use mathlib.Core.List.{List, [], ◌∷◌, ◌++◌, map, append_assoc, map_append}
+use mathlib.Core.List.{List, [], ◌∷◌, ◌++◌, map, append_assoc, map-append}
 use lib.Dec.{eqb}
 use Rattle.statement.specs.Cluster.{group_of}
 use Rattle.statement.specs.Rows.{Row, row}
@@ -31,10 +31,10 @@ pub raw_rows_law : (n p : ℕ) (f : Children) → map (row_of n) (edges_at p f) 
 unfolding raw_rows edges_at split_made cluster_for
 raw_rows_law n p (leaf x w) = refl
 raw_rows_law n p (group f w) =
-    map_append (row_of n) (edges_at (p + 1) f) (edge_at (p + 1 + size f + 1 + 1) (taxa_of f) w ∷ []) ∙ ap (λ (s : List Row). s ++ (row (cluster_for n (taxa_of f)) (value w) ∷ [])) (raw_rows_law n (p + 1) f)
+    map-append (row_of n) (edges_at (p + 1) f) (edge_at (p + 1 + size f + 1 + 1) (taxa_of f) w ∷ []) ∙ ap (λ (s : List Row). s ++ (row (cluster_for n (taxa_of f)) (value w) ∷ [])) (raw_rows_law n (p + 1) f)
 raw_rows_law n p (leaf_then x w r) = ap (λ (s : List Row). row (cluster_for n (value x ∷ [])) (value w) ∷ s) (raw_rows_law n (past_leaf p x w) r)
 raw_rows_law n p (group_then f w r) =
-    map_append (row_of n) (edges_at (p + 1) f) (edge_at (p + 1 + size f + 1 + 1) (taxa_of f) w ∷ edges_at (past_group p f w) r)
+    map-append (row_of n) (edges_at (p + 1) f) (edge_at (p + 1 + size f + 1 + 1) (taxa_of f) w ∷ edges_at (past_group p f w) r)
     ∙ ap₂ (λ (s t : List Row). s ++ (row (cluster_for n (taxa_of f)) (value w) ∷ t)) (raw_rows_law n (p + 1) f) (raw_rows_law n (past_group p f w) r)
 
 -- without those of length 0

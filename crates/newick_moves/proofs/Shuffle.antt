@@ -4,9 +4,9 @@ use native.Mathlib.Omega.{arith}
 use mathlib.Core.Path.{◌≡◌, refl, sym, ◌∙◌, ap, subst}
 use mathlib.Core.Logic.{◌⊎◌, inl, inr, ⊎_elim}
 use mathlib.Core.Bool.{Bool, true, false, cond, ◌||◌, true≢false}
-use mathlib.Core.List.{List, [], ◌∷◌, ◌++◌, append_nil}
+use mathlib.Core.List.{List, [], ◌∷◌, ◌++◌, append-nil}
 use lib.Dec.{leb, eqb}
-use borrow.Author.Tests.{leb_true, leb_false, le_leb, lt_leb, eq_eqb, ne_eqb}
+use borrow.Author.Tests.{leb-true, leb-false, le-leb, lt-leb, eq-eqb, ne_eqb}
 use native.Mathlib.Decide.{dec_lt}
 use Rattle.statement.specs.Rows.{Row, clusters, Mem}
 use Rattle.statement.specs.Tree.{insert_row, sort_rows}
@@ -50,7 +50,7 @@ module _ {A : Type 0} where
   turn (then s t) = then (turn t) (turn s)
 
   pub cross : (xs ys : List A) → Shuffle (xs ++ ys) (ys ++ xs)
-  cross [] ys = equal (sym (append_nil ys))
+  cross [] ys = equal (sym (append-nil ys))
   cross (x ∷ xs) ys = then (keep x (cross xs ys)) (turn (raise x ys xs))
 
 -- TAXA in another order
@@ -74,7 +74,7 @@ good_same n before (swap x y xs) g =
     (g.2.0, h.1, (g.0, flip h g.1, good_less n (y ∷ x ∷ before) (x ∷ y ∷ before) xs two g.2.2))
   where
     flip : (eqb y x ≡ false) × (among y before ≡ false) → among x before ≡ false → among x (y ∷ before) ≡ false
-    flip h k = rw (ne_eqb x y (λ e. true≢false (sym (eq_eqb y x (sym e)) ∙ h.0))) k
+    flip h k = rw (ne_eqb x y (λ e. true≢false (sym (eq-eqb y x (sym e)) ∙ h.0))) k
 
     two : (z : ℕ) → among z (x ∷ y ∷ before) ≡ true → among z (y ∷ x ∷ before) ≡ true
     two z e = go (eqb z x) (eqb z y) e
@@ -108,18 +108,18 @@ different_same (then s t) d = different_same t (different_same s d)
 
 -- two rows with different clusters go in in either order
 leb_yes : (a b : ℕ) → a < b → leb a b ≡ true
-leb_yes a b l = le_leb a b (omega arith)
+leb_yes a b l = le-leb a b (omega arith)
 
 insert_two : (x y : Row) → x.cluster < y.cluster → (zs : List Row) → insert_row x (insert_row y zs) ≡ insert_row y (insert_row x zs)
 unfolding insert_row
-insert_two x y l [] = rw (leb_yes x.cluster y.cluster l, lt_leb y.cluster x.cluster l)
+insert_two x y l [] = rw (leb_yes x.cluster y.cluster l, lt-leb y.cluster x.cluster l)
 insert_two x y l (z ∷ zs) = go (leb x.cluster z.cluster) refl (leb y.cluster z.cluster) refl (insert_two x y l zs)
   where
     xy : leb x.cluster y.cluster ≡ true
     xy = leb_yes x.cluster y.cluster l
 
     yx : leb y.cluster x.cluster ≡ false
-    yx = lt_leb y.cluster x.cluster l
+    yx = lt-leb y.cluster x.cluster l
 
     go : (a : Bool) → leb x.cluster z.cluster ≡ a → (b : Bool) → leb y.cluster z.cluster ≡ b
         → insert_row x (insert_row y zs) ≡ insert_row y (insert_row x zs)
@@ -127,7 +127,7 @@ insert_two x y l (z ∷ zs) = go (leb x.cluster z.cluster) refl (leb y.cluster z
     go true p true q ih = rw (xy, yx, q)
     go true p false q ih = rw (p, yx, q)
     go false p true q ih =
-        absurd (omega (arith, leb_false x.cluster z.cluster p, leb_true y.cluster z.cluster q))
+        absurd (omega (arith, leb-false x.cluster z.cluster p, leb-true y.cluster z.cluster q))
     go false p false q ih = rw (p, q) (ap (λ (s : List Row). z ∷ s) ih)
 
 insert_both : (x y : Row) → (x.cluster ≡ y.cluster → ⊥) → (zs : List Row) → insert_row x (insert_row y zs) ≡ insert_row y (insert_row x zs)

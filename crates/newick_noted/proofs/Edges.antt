@@ -3,8 +3,8 @@ use Prim.Native.Nat.{ℕ, ◌+◌, ◌-◌, ◌^◌, ◌≤◌, ◌<◌, min}
 use native.Mathlib.Omega.{arith}
 use mathlib.Core.Path.{◌≡◌, refl, sym, ◌∙◌, ap, ap₂}
 use mathlib.Core.Bool.{true, false}
-use mathlib.Core.List.{List, [], ◌∷◌, ◌++◌, map, map_append}
-use borrow.Author.Tests.{lt_ltb}
+use mathlib.Core.List.{List, [], ◌∷◌, ◌++◌, map, map-append}
+use borrow.Author.Tests.{lt-ltb}
 use Rattle.statement.specs.Cluster.{group_of}
 use Rattle.statement.specs.Sentence.{Numeral, Children, leaf, group, leaf_then, group_then, Leaf, Edge, value, width, size, among, beyond, taxa_of, leaves_at, edges_at, split_made, edge_at, past_leaf, past_group}
 use Rattle.numerals.specs.Numerals.{number_limit}
@@ -21,7 +21,7 @@ taxa_leaves p (leaf x w) = refl
 taxa_leaves p (group f w) = taxa_leaves (p + 1) f
 taxa_leaves p (leaf_then x w r) = ap (λ (s : List ℕ). value x ∷ s) (taxa_leaves (past_leaf p x w) r)
 taxa_leaves p (group_then f w r) =
-    map_append (λ (l : Leaf). l.taxon) (leaves_at (p + 1) f) (leaves_at (past_group p f w) r)
+    map-append (λ (l : Leaf). l.taxon) (leaves_at (p + 1) f) (leaves_at (past_group p f w) r)
     ∙ ap₂ (λ (s t : List ℕ). s ++ t) (taxa_leaves (p + 1) f) (taxa_leaves (past_group p f w) r)
 
 -- an edge as the walk is to enter it
@@ -46,7 +46,7 @@ module _ (n : ℕ) (some : 0 < n) (few : n ≤ 64) where
   unfolding mask_of total
   unbracketed x before m e l a =
       let f : fresh n m.seen (cut x) ≡ true
-      = ap (λ (s : ℕ). fresh n s (cut x)) e ∙ fresh_is n few before (value x) ∙ rw (lt_ltb (value x) n l, a) in
+      = ap (λ (s : ℕ). fresh n s (cut x)) e ∙ fresh_is n few before (value x) ∙ rw (lt-ltb (value x) n l, a) in
       let c : cut x ≡ value x = omega arith in
       rw f (ap (side n) (ap (λ (k : ℕ). 2 ^ k) c ∙ (let z : 2 ^ value x ≡ 2 ^ value x + 0 = omega arith in z)) ∙ side_of (value x ∷ []) (l, refl, tt))
 
@@ -57,7 +57,7 @@ module _ (n : ℕ) (some : 0 < n) (few : n ≤ 64) where
       ap (λ (c : ℕ). entry (p + width x + 1) c (cut w) ∷ []) (unbracketed x before m e g.0 g.1)
   entries_are (group f w) p before m e g =
       ap₂ (λ (s : List Entry) (c : ℕ). s ++ (entry (p + 1 + size f + 1 + 1) c (cut w) ∷ [])) (entries_are f (p + 1) before m e g) (since f (p + 1) before m e g)
-      ∙ sym (map_append (entry_of n) (edges_at (p + 1) f) (edge_at (p + 1 + size f + 1 + 1) (taxa_of f) w ∷ []))
+      ∙ sym (map-append (entry_of n) (edges_at (p + 1) f) (edge_at (p + 1 + size f + 1 + 1) (taxa_of f) w ∷ []))
   entries_are (leaf_then x w r) p before m e g =
       ap₂ (λ (c : ℕ) (s : List Entry). entry (p + width x + 1) c (cut w) ∷ s) (unbracketed x before m e g.0 g.1)
       (entries_are r (past_leaf p x w) (value x ∷ before) (meet n m p (cut x)) (meets_it n few before m p (value x) e).0 g.2)
@@ -68,4 +68,4 @@ module _ (n : ℕ) (some : 0 < n) (few : n ≤ 64) where
       ap₂ (λ (s : List Entry) (t : List Entry). s ++ t) (entries_are f (p + 1) before m e h.0)
       (ap₂ (λ (c : ℕ) (s : List Entry). entry (p + 1 + size f + 1 + 1) c (cut w) ∷ s) (since f (p + 1) before m e h.0)
       (entries_are r (past_group p f w) (turned (taxa_of f) before) (meet_all n (leaves_at (p + 1) f) m) q h.1))
-      ∙ sym (map_append (entry_of n) (edges_at (p + 1) f) (edge_at (p + 1 + size f + 1 + 1) (taxa_of f) w ∷ edges_at (past_group p f w) r))
+      ∙ sym (map-append (entry_of n) (edges_at (p + 1) f) (edge_at (p + 1 + size f + 1 + 1) (taxa_of f) w ∷ edges_at (past_group p f w) r))

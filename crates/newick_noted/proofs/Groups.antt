@@ -6,7 +6,7 @@ use mathlib.Core.Path.{◌≡◌, refl, ◌∙◌, ap, ap₂}
 use mathlib.Core.Bool.{Bool, true, false, cond, not, ◌||◌}
 use lib.Dec.{eqb}
 use lib.Pow.{pow_pos}
-use borrow.Author.Tests.{eq_eqb, ne_eqb}
+use borrow.Author.Tests.{eq-eqb, ne_eqb}
 use Rattle.statement.specs.Cluster.{bit, group_of}
 use Rattle.statement.proofs.Groups.{group_below, group_bit}
 use Rattle.newick_edges.proofs.Marking.{room}
@@ -35,7 +35,7 @@ group_add p (suc n) x l e = go (ℕ_discrete n x) (λ h. group_add p n x h e)
     go (yes q) ih =
         let off : p n ≡ false = ap p q ∙ e in
         let below : group_of (λ y. eqb y x || p y) n ≡ group_of p n = group_same (λ y. eqb y x || p y) p n (λ y h. rw (ne_eqb y x (λ z. omega arith))) in
-        rw (eq_eqb n x q, off) (omega (arith, below, ap (λ (k : ℕ). 2 ^ k) q))
+        rw (eq-eqb n x q, off) (omega (arith, below, ap (λ (k : ℕ). 2 ^ k) q))
     go (no q) ih = rw (ne_eqb n x q) (omega (arith, ih (omega (arith, q))))
 
 -- the other taxa, and all of them

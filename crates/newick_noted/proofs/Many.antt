@@ -5,7 +5,7 @@ use mathlib.Core.Path.{◌≡◌, refl, ◌∙◌, ap, ap₂}
 use mathlib.Core.Bool.{Bool, true, false, cond, not}
 use mathlib.Core.List.{List, [], ◌∷◌, map}
 use lib.Dec.{eqb}
-use lib.ListN.{length, get_or, replicate, length_map, get_or_append}
+use lib.ListN.{length, get_or, replicate, length-map, get_or-append}
 use Rattle.statement.specs.Rows.{Row, row, filled}
 use Rattle.statement.specs.Tree.{numbers, sort_rows}
 use Rattle.row_sort.specs.Sorted.{row_at, sorted_of}
@@ -65,7 +65,7 @@ many_none (r ∷ R) h = go (eqb r.many 0) h (λ k. many_none R k)
 -- A COLUMN of the table
 pub column_at : (g : Held → ℕ) (R : List Held) (i : ℕ) → i < length R → get_or (filled (map g R)) i 0 ≡ get_or (map g R) i 0
 unfolding filled
-column_at g R i l = get_or_append (map g R) (replicate (125 - length (map g R)) 0) 0 i (omega (arith, length_map R g))
+column_at g R i l = get_or-append (map g R) (replicate (125 - length (map g R)) 0) 0 i (omega (arith, length-map R g))
 
 no_row : Held
 no_row = record { cluster = 0; weight = 0; place = 0; many = 0 }

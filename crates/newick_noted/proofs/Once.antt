@@ -6,7 +6,7 @@ use mathlib.Core.Logic.{◌⊎◌, inl, inr, ⊎_elim}
 use mathlib.Core.Bool.{Bool, true, false, cond, ◌||◌, true≢false}
 use mathlib.Core.List.{List, [], ◌∷◌, map}
 use lib.Dec.{eqb}
-use borrow.Author.Tests.{eqb_true, eqb_false, eq_eqb, ne_eqb}
+use borrow.Author.Tests.{eqb-true, eqb-false, eq-eqb, ne_eqb}
 use Rattle.statement.specs.Sentence.{among}
 use Rattle.newick_noted.proofs.Taxa.{head_or, both, or_none}
 use Rattle.newick_noted.proofs.Play.{Entry}
@@ -66,7 +66,7 @@ fresh_on : (c : ℕ) (before : List ℕ) (es : List Entry) → among c (clusters
 fresh_on c before [] h f = tt
 fresh_on c before (e ∷ es) h f =
     let k = or_none (eqb c e.cluster) (among c (clusters_e es)) h in
-    (rw (ne_eqb e.cluster c (λ q. eqb_false c e.cluster k.0 (sym q))) f.0, fresh_on c before es k.1 f.1)
+    (rw (ne_eqb e.cluster c (λ q. eqb-false c e.cluster k.0 (sym q))) f.0, fresh_on c before es k.1 f.1)
 
 pub fresh_none : (es : List Entry) → Fresh [] es
 fresh_none [] = tt
@@ -129,7 +129,7 @@ unfolding add_to
 among_add [] e x h = go (eqb x e.cluster) refl h
   where
     go : (b : Bool) → eqb x e.cluster ≡ b → (b || false) ≡ true → (false ≡ true) ⊎ (x ≡ e.cluster)
-    go true q h = inr (eqb_true x e.cluster q)
+    go true q h = inr (eqb-true x e.cluster q)
     go false q h = inl h
 among_add (r ∷ R) e x h = go (eqb r.cluster e.cluster) h (λ k. among_add R e x k)
   where
@@ -156,7 +156,7 @@ distinct_add (r ∷ R) e d = go (eqb r.cluster e.cluster) refl (distinct_add R e
     go true q ih k a = d
     go false q ih (inr h) a = (h, ih)
     go false q ih (inl h) a =
-        absurd (⊎_elim (λ z. true≢false (sym z ∙ d.0)) (λ z. eqb_false r.cluster e.cluster q z) (a h))
+        absurd (⊎_elim (λ z. true≢false (sym z ∙ d.0)) (λ z. eqb-false r.cluster e.cluster q z) (a h))
 
 pub distinct_all : (es : List Entry) (R : List Held) → Distinct (clusters_h R) → Distinct (clusters_h (add_all R es))
 unfolding add_all
@@ -166,7 +166,7 @@ distinct_all (e ∷ es) R d = distinct_all es (add_to R e) (distinct_add R e d)
 pub among_all : (es : List Entry) (R : List Held) (x : ℕ) → among x (clusters_h (add_all R es)) ≡ true → (among x (clusters_h R) ≡ true) ⊎ (among x (clusters_e es) ≡ true)
 unfolding add_all
 among_all [] R x h = inl h
-among_all (e ∷ es) R x h = ⊎_elim (λ k. ⊎_elim (λ q. inl q) (λ q. inr (rw (eq_eqb x e.cluster q))) (among_add R e x k)) (λ k. inr (later (eqb x e.cluster) k)) (among_all es (add_to R e) x h)
+among_all (e ∷ es) R x h = ⊎_elim (λ k. ⊎_elim (λ q. inl q) (λ q. inr (rw (eq-eqb x e.cluster q))) (among_add R e x k)) (λ k. inr (later (eqb x e.cluster) k)) (among_all es (add_to R e) x h)
   where
     later : (b : Bool) → among x (clusters_e es) ≡ true → (b || among x (clusters_e es)) ≡ true
     later true k = refl

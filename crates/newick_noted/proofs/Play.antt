@@ -3,8 +3,8 @@ use Prim.Native.Nat.{ℕ, zero, suc, ◌+◌, ◌-◌, ◌≤◌, ◌<◌}
 use native.Mathlib.Omega.{arith}
 use mathlib.Core.Path.{◌≡◌, refl, sym, ◌∙◌, ap, ap₂}
 use mathlib.Core.List.{List, [], ◌∷◌, ◌++◌}
-use lib.ListN.{length, get_or, set, length_set}
-use lib.Seq.{get_or_set_same, get_or_set_other}
+use lib.ListN.{length, get_or, set, length-set}
+use lib.Seq.{get_or-set_same, get_or-set_other}
 use Rattle.statement.specs.Sentence.{Numeral, Children, leaf, group, leaf_then, group_then, Fits, Leaf, width, size, past_leaf, past_group, leaves_at}
 use Rattle.newick_edges.specs.declared.Met.{Met}
 use Rattle.newick_edges.specs.Marks.{meet, mask_of, side}
@@ -98,7 +98,7 @@ module _ (n : ℕ) where
     (λ ts. ap (play n ts) (sym (opens_at u l))),
     refl,
     ap (λ (k : Met). set u.opened u.depth k.seen) h.met,
-    record { at = ap (λ (k : ℕ). k + 1) h.at; room = length_set u.opened u.depth u.met.seen ∙ h.room; met = h.met; table = h.table },
+    record { at = ap (λ (k : ℕ). k + 1) h.at; room = length-set u.opened u.depth u.met.seen ∙ h.room; met = h.met; table = h.table },
   )
 
   close_step : (p : ℕ) (m : Met) (t : Table) (u : Walk) (d s : ℕ) (w : Numeral) → Here p m t u → u.depth ≡ d + 1 → d < 131 → get_or u.opened d 0 ≡ s
@@ -140,14 +140,14 @@ module _ (n : ℕ) where
       let o = open_step p m t u h (omega arith) in
       let a = ih o.0 (omega (arith, o.2)) o.4 in
       let b = a.2 in
-      let first : get_or o.0.opened u.depth 0 ≡ m.seen = ap (λ (s : List ℕ). get_or s u.depth 0) o.3 ∙ get_or_set_same u.opened u.depth m.seen 0 (omega (arith, h.room)) in
+      let first : get_or o.0.opened u.depth 0 ≡ m.seen = ap (λ (s : List ℕ). get_or s u.depth 0) o.3 ∙ get_or-set_same u.opened u.depth m.seen 0 (omega (arith, h.room)) in
       let c = close_step (p + 1 + size f) (meet_all n (leaves_at (p + 1) f) m) (enter_all (entries_at n (p + 1) m f) t) a.0 u.depth m.seen w
       (record { at = b.at; room = b.room; met = b.met; table = b.table })
       (b.depth ∙ o.2) (omega arith) (b.kept u.depth (omega (arith, o.2)) ∙ first) in (
         c.0,
         (λ ts. o.1 (tokens f (closes ∷ weight w ∷ ts)) ∙ a.1 (closes ∷ weight w ∷ ts) ∙ c.1 ts),
         c.2,
-        (λ j l. ap (λ (s : List ℕ). get_or s j 0) c.3 ∙ b.kept j (omega (arith, o.2)) ∙ ap (λ (s : List ℕ). get_or s j 0) o.3 ∙ get_or_set_other u.opened u.depth j m.seen 0 (λ z. omega arith)),
+        (λ j l. ap (λ (s : List ℕ). get_or s j 0) c.3 ∙ b.kept j (omega (arith, o.2)) ∙ ap (λ (s : List ℕ). get_or s j 0) o.3 ∙ get_or-set_other u.opened u.depth j m.seen 0 (λ z. omega arith)),
         c.4,
       )
 

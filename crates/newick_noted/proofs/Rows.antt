@@ -4,11 +4,11 @@ use native.Mathlib.Omega.{arith}
 use mathlib.Core.Path.{◌≡◌, refl, sym, ◌∙◌, ap, ap₂}
 use mathlib.Core.Logic.{◌⊎◌, inl, inr}
 use mathlib.Core.Bool.{Bool, true, false, cond}
-use mathlib.Core.List.{List, [], ◌∷◌, ◌++◌, map, append_assoc, map_append}
+use mathlib.Core.List.{List, [], ◌∷◌, ◌++◌, map, append_assoc, map-append}
 use lib.Dec.{ltb, eqb}
-use lib.ListN.{length, get_or, set, replicate, length_map, length_append, get_or_append}
+use lib.ListN.{length, get_or, set, replicate, length-map, length-append, get_or-append}
 use lib.Seq.{set_at}
-use borrow.Author.Tests.{lt_ltb, ltb_true, ltb_false}
+use borrow.Author.Tests.{lt-ltb, ltb-true, ltb-false}
 use Rattle.statement.specs.Lowest.{lowest_from, lowest}
 use Rattle.statement.specs.Matrix.{weight_limit}
 use Rattle.statement.specs.Rows.{filled}
@@ -79,7 +79,7 @@ pub pos_filled : (p : ℕ → Bool) (xs : List ℕ) → lowest (λ j. p (get_or 
 unfolding filled
 pos_filled p xs =
     lowest_same (λ j. p (get_or (filled xs) j 0)) (λ j. p (get_or xs j 0)) 0 (length xs)
-    (λ j a l. ap p (get_or_append xs (replicate (125 - length xs) 0) 0 j (omega arith)))
+    (λ j a l. ap p (get_or-append xs (replicate (125 - length xs) 0) 0 j (omega arith)))
     ∙ pos_lowest p xs
 
 -- STORES
@@ -87,7 +87,7 @@ pub filled_push : (xs : List ℕ) (v : ℕ) → length xs < 125 → set (filled 
 unfolding filled
 filled_push xs v h =
     let spare = 125 - length (xs ++ (v ∷ [])) in
-    let more : 125 - length xs ≡ suc spare = omega (arith, length_append xs (v ∷ [])) in
+    let more : 125 - length xs ≡ suc spare = omega (arith, length-append xs (v ∷ [])) in
     ap (λ (m : ℕ). set (xs ++ replicate m 0) (length xs) v) more
     ∙ set_at xs 0 (replicate spare 0) v (length xs) refl
     ∙ sym (append_assoc xs (v ∷ []) (replicate spare 0))
@@ -96,7 +96,7 @@ filled_zero : (xs : List ℕ) → length xs < 125 → filled xs ≡ filled (xs +
 unfolding filled
 filled_zero xs h =
     let spare = 125 - length (xs ++ (0 ∷ [])) in
-    let more : 125 - length xs ≡ suc spare = omega (arith, length_append xs (0 ∷ [])) in
+    let more : 125 - length xs ≡ suc spare = omega (arith, length-append xs (0 ∷ [])) in
     ap (λ (m : ℕ). xs ++ replicate m 0) more ∙ sym (append_assoc xs (0 ∷ []) (replicate spare 0))
 
 -- a store below the length
@@ -187,7 +187,7 @@ tables h b m m' cs cs' ws ws' ps ps' ms ms' em ec ew ep es = λ i. record { heav
 module _ (h b : ℕ) (R : List Held) (p c w : ℕ) where
   found_is : found (table_of h b R) c ≡ pos_by (λ x. eqb x c) (map (λ r. r.cluster) R)
   found_is =
-      ap (lowest (λ j. eqb (get_or (filled (map (λ r. r.cluster) R)) j 0) c)) (sym (length_map R (λ r. r.cluster)))
+      ap (lowest (λ j. eqb (get_or (filled (map (λ r. r.cluster) R)) j 0) c)) (sym (length-map R (λ r. r.cluster)))
       ∙ pos_filled (λ x. eqb x c) (map (λ r. r.cluster) R)
 
   -- ADDED
@@ -200,28 +200,28 @@ module _ (h b : ℕ) (R : List Held) (p c w : ℕ) where
 
       go : (ltb (found (table_of h b R) c) (length R) ≡ true) ⊎ (ltb (found (table_of h b R) c) (length R) ≡ false) → added (table_of h b R) p c w ≡ table_of h b (add_to R (entry p c w))
       go (inl e) =
-          let l = ltb_true (found (table_of h b R) c) (length R) e in
+          let l = ltb-true (found (table_of h b R) c) (length R) e in
           let k = found_there (entry p c w) R (omega (arith, found_is)) in
           rw e (tables h b (length R) (length (add_to R (entry p c w))) _ _ _ _ _ _ _ _ (sym k.count) (ap filled (sym k.clusters)) (ap filled (sym k.weights)) (ap filled (sym k.places))
           (ap (λ (i : ℕ). set (filled (map (λ r. r.many) R)) i 1) found_is
-          ∙ filled_set (map (λ r. r.many) R) (pos_by (λ x. eqb x c) (map (λ r. r.cluster) R)) 1 (omega (arith, found_is, length_map R (λ r. r.many)))
+          ∙ filled_set (map (λ r. r.many) R) (pos_by (λ x. eqb x c) (map (λ r. r.cluster) R)) 1 (omega (arith, found_is, length-map R (λ r. r.many)))
           ∙ ap filled (sym k.many)))
       go (inr e) =
-          let l = ltb_false (found (table_of h b R) c) (length R) e in
+          let l = ltb-false (found (table_of h b R) c) (length R) e in
           let q = not_there (entry p c w) R (omega (arith, found_is)) in
-          let len : length (add_to R (entry p c w)) ≡ length R + 1 = ap length q ∙ length_append R (held (entry p c w) ∷ []) in
+          let len : length (add_to R (entry p c w)) ≡ length R + 1 = ap length q ∙ length-append R (held (entry p c w) ∷ []) in
           let room : length R < 125 = omega arith in
-          rw (e, lt_ltb (length R) 125 room)
+          rw (e, lt-ltb (length R) 125 room)
           (tables h b (length R + 1) (length (add_to R (entry p c w))) _ _ _ _ _ _ _ _ (sym len)
           (col (λ r. r.cluster) c room refl ∙ ap (λ (s : List Held). filled (map (λ r. r.cluster) s)) (sym q))
           (col (λ r. r.weight) w room refl ∙ ap (λ (s : List Held). filled (map (λ r. r.weight) s)) (sym q))
           (col (λ r. r.place) p room refl ∙ ap (λ (s : List Held). filled (map (λ r. r.place) s)) (sym q))
-          (filled_zero (map (λ r. r.many) R) (omega (arith, length_map R (λ r. r.many))) ∙ ap filled (sym (map_append (λ r. r.many) R (held (entry p c w) ∷ []))) ∙ ap (λ (s : List Held). filled (map (λ r. r.many) s)) (sym q)))
+          (filled_zero (map (λ r. r.many) R) (omega (arith, length-map R (λ r. r.many))) ∙ ap filled (sym (map-append (λ r. r.many) R (held (entry p c w) ∷ []))) ∙ ap (λ (s : List Held). filled (map (λ r. r.many) s)) (sym q)))
         where
           col : (g : Held → ℕ) (v : ℕ) → length R < 125 → g (held (entry p c w)) ≡ v → set (filled (map g R)) (length R) v ≡ filled (map g (R ++ (held (entry p c w) ∷ [])))
           col g v room e =
-              ap (λ (i : ℕ). set (filled (map g R)) i v) (sym (length_map R g)) ∙ filled_push (map g R) v (omega (arith, length_map R g))
-              ∙ ap (λ (x : ℕ). filled (map g R ++ (x ∷ []))) (sym e) ∙ ap filled (sym (map_append g R (held (entry p c w) ∷ [])))
+              ap (λ (i : ℕ). set (filled (map g R)) i v) (sym (length-map R g)) ∙ filled_push (map g R) v (omega (arith, length-map R g))
+              ∙ ap (λ (x : ℕ). filled (map g R ++ (x ∷ []))) (sym e) ∙ ap filled (sym (map-append g R (held (entry p c w) ∷ [])))
 
   -- ENTERED
   abbrev pub heavy1 : ℕ

@@ -7,7 +7,7 @@ use mathlib.Core.Logic.{◌⊎◌, inl, inr}
 use mathlib.Core.Bool.{Bool, true, false, cond, not, ◌||◌, true≢false, false≢true}
 use mathlib.Core.List.{List, [], ◌∷◌, ◌++◌, map}
 use lib.Dec.{ltb, eqb}
-use borrow.Author.Tests.{ltb_true, ltb_false, lt_ltb, le_ltb, eq_eqb, ne_eqb}
+use borrow.Author.Tests.{ltb-true, ltb-false, lt-ltb, le-ltb, eq-eqb, ne_eqb}
 use Rattle.statement.specs.Cluster.{group_of}
 use Rattle.statement.proofs.Groups.{group_bit}
 use Rattle.numerals.specs.Numerals.{number_limit}
@@ -45,8 +45,8 @@ module _ (n : ℕ) (few : n ≤ 64) (before : List ℕ) (x : ℕ) where
 
       go : Dec (x < n) → fresh n (met_group n before) (min x number_limit) ≡ not stray
       go (yes l) =
-          rw (low_cap l, lt_ltb x n l, group_bit (λ y. among y before) n x l) (bits (among x before))
-      go (no l) = rw (le_ltb (min x number_limit) n (let h : n ≤ min x number_limit = omega arith in h), le_ltb x n (let h : n ≤ x = omega arith in h))
+          rw (low_cap l, lt-ltb x n l, group_bit (λ y. among y before) n x l) (bits (among x before))
+      go (no l) = rw (le-ltb (min x number_limit) n (let h : n ≤ min x number_limit = omega arith in h), le-ltb x n (let h : n ≤ x = omega arith in h))
 
   -- it is met, and nothing else
   pub group_met : stray ≡ false → met_group n before + 2 ^ min x number_limit ≡ met_group n (x ∷ before)
@@ -54,7 +54,7 @@ module _ (n : ℕ) (few : n ≤ 64) (before : List ℕ) (x : ℕ) where
     where
       go : (a : Bool) → ltb x n ≡ a → (b : Bool) → among x before ≡ b → not a || b ≡ false → met_group n before + 2 ^ min x number_limit ≡ met_group n (x ∷ before)
       go true p false q e =
-          let l = ltb_true x n p in
+          let l = ltb-true x n p in
           sym (group_add (λ y. among y before) n x l q ∙ ap (λ (k : ℕ). met_group n before + 2 ^ k) (sym (low_cap l)))
       go true p true q e = absurd (true≢false e)
       go false p b q e = absurd (true≢false e)
@@ -67,10 +67,10 @@ module _ (n : ℕ) (few : n ≤ 64) (before : List ℕ) (x : ℕ) where
         where
           go : (a : Bool) → ltb x n ≡ a → not a || among x before ≡ true → among y before ≡ true
           go true p h = ap (λ (k : ℕ). among k before) q ∙ h
-          go false p h = absurd (omega (arith, ltb_false x n p))
+          go false p h = absurd (omega (arith, ltb-false x n p))
 
       at : (y : ℕ) → y < n → among y before ≡ (eqb y x || among y before)
-      at y l = elim (ℕ_discrete y x) [ yes q ↦ same y l q ∙ sym (rw (eq_eqb y x q)) | no q ↦ sym (rw (ne_eqb y x q)) ]
+      at y l = elim (ℕ_discrete y x) [ yes q ↦ same y l q ∙ sym (rw (eq-eqb y x q)) | no q ↦ sym (rw (ne_eqb y x q)) ]
 
 -- all the taxa met, strays or not
 abbrev pub turned : List ℕ → List ℕ → List ℕ
@@ -89,7 +89,7 @@ pub first_none : (s : ℕ) → first_of s 0 ≡ s
 first_none s = elim (ℕ_discrete s 0) [ yes e ↦ rw e | no f ↦ rw (ne_eqb s 0 f) ]
 
 pub first_kept : (s p q : ℕ) → 0 < p → first_of (first_of s p) q ≡ first_of s p
-first_kept s p q l = elim (ℕ_discrete s 0) [ yes e ↦ rw (eq_eqb s 0 e, ne_eqb p 0 (λ z. omega arith)) | no f ↦ rw (ne_eqb s 0 f, ne_eqb s 0 f) ]
+first_kept s p q l = elim (ℕ_discrete s 0) [ yes e ↦ rw (eq-eqb s 0 e, ne_eqb p 0 (λ z. omega arith)) | no f ↦ rw (ne_eqb s 0 f, ne_eqb s 0 f) ]
 
 module _ (n : ℕ) (few : n ≤ 64) where
   abbrev pub is_stray : List ℕ → ℕ → Bool
@@ -151,7 +151,7 @@ good_of n before (l ∷ ls) e = go (ltb l.taxon n) refl (among l.taxon before) r
     go : (a : Bool) → ltb l.taxon n ≡ a → (b : Bool) → among l.taxon before ≡ b
         → (strays n (l.taxon ∷ before) ls ≡ [] → Good n (l.taxon ∷ before) (taxa ls))
         → cond (not a || b) (l.place ∷ strays n (l.taxon ∷ before) ls) (strays n (l.taxon ∷ before) ls) ≡ [] → Good n before (taxa (l ∷ ls))
-    go true p false q ih e = (ltb_true l.taxon n p, q, ih e)
+    go true p false q ih e = (ltb-true l.taxon n p, q, ih e)
     go true p true q ih e = cons_nil e
     go false p b q ih e = cons_nil e
 
@@ -164,7 +164,7 @@ or_none true b e = absurd (true≢false e)
 or_none false b e = (refl, e)
 
 pub among_head : (x : ℕ) (xs : List ℕ) → among x (x ∷ xs) ≡ true
-among_head x xs = rw (eq_eqb x x refl)
+among_head x xs = rw (eq-eqb x x refl)
 
 pub among_append : (y : ℕ) (xs ys : List ℕ) → among y (xs ++ ys) ≡ (among y xs || among y ys)
 among_append y [] ys = refl
@@ -211,7 +211,7 @@ turned_before (x ∷ xs) before y e = turned_before xs (x ∷ before) y (or_righ
 
 pub turned_in : (xs before : List ℕ) (y : ℕ) → among y xs ≡ true → among y (turned xs before) ≡ true
 turned_in [] before y e = absurd (false≢true e)
-turned_in (x ∷ xs) before y e = elim (ℕ_discrete y x) [ yes q ↦ turned_before xs (x ∷ before) y (rw (eq_eqb y x q)) | no q ↦ turned_in xs (x ∷ before) y (rw (ne_eqb y x q) at e) ]
+turned_in (x ∷ xs) before y e = elim (ℕ_discrete y x) [ yes q ↦ turned_before xs (x ∷ before) y (rw (eq-eqb y x q)) | no q ↦ turned_in xs (x ∷ before) y (rw (ne_eqb y x q) at e) ]
 
 pub good_alone : (n : ℕ) (before xs : List ℕ) → Good n before xs → Good n [] xs
 good_alone n before xs g = good_less n before [] xs (λ y e. absurd (false≢true e)) g

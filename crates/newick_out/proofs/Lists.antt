@@ -3,7 +3,7 @@ use Prim.Native.Nat.{ℕ}
 use mathlib.Core.Path.{◌≡◌, refl, sym, ◌∙◌, ap}
 use mathlib.Core.Logic.{◌≢◌}
 use mathlib.Core.List.{List, []}
-use borrow.Author.Tests.{eq_eqb, ne_eqb}
+use borrow.Author.Tests.{eq-eqb, ne_eqb}
 use Rattle.statement.specs.declared.Splits.{Splits}
 use Rattle.statement.specs.declared.Reading.{Reading}
 use Rattle.statement.specs.declared.Outcome.{Outcome}
@@ -36,7 +36,7 @@ module _ (bytes : List ℕ) (said : Outcome) (is : said ≡ find_record bytes) w
 
     pub list_tree : kind_in bytes ≡ 3 → read_tree (taxa_in bytes) (body_in bytes) ≡ list_in bytes
     unfolding list_in
-    list_tree e = rw (done, eq_eqb (kind_in bytes) 3 e)
+    list_tree e = rw (done, eq-eqb (kind_in bytes) 3 e)
 
     pub list_run : kind_in bytes ≢ 3 → without_trials (run_record bytes) ≡ list_in bytes
     unfolding list_in

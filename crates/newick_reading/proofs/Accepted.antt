@@ -7,7 +7,7 @@ use mathlib.Core.Bool.{Bool, true, false, cond, not, ◌||◌, true≢false}
 use mathlib.Core.List.{List, [], ◌∷◌, ◌++◌, map}
 use lib.Dec.{ltb, eqb}
 use lib.Pow.{pow_pos}
-use borrow.Author.Tests.{ltb_false, eqb_false, eq_eqb}
+use borrow.Author.Tests.{ltb-false, eqb-false, eq-eqb}
 use Rattle.statement.specs.declared.Reading.{Reading}
 use Rattle.statement.specs.declared.Outcome.{Outcome}
 use Rattle.statement.specs.declared.Outcome.TheVariants.{Done, Short, Refused}
@@ -45,7 +45,7 @@ pub record Accepted (n : ℕ) (f : Children) : Type 0 where
 -- a check that is passed has no bad places
 none_bad : (number lo m : ℕ) (ps : List ℕ) → Ascending lo m ps → Passed (bad_at number ps m) → ps ≡ []
 none_bad number lo m [] h p = refl
-none_bad number lo m (q ∷ ps) h p = absurd (true≢false (sym (rw (eq_eqb q q refl)) ∙ p q (omega (arith, asc_le (suc q) m ps h.1))))
+none_bad number lo m (q ∷ ps) h p = absurd (true≢false (sym (rw (eq-eqb q q refl)) ∙ p q (omega (arith, asc_le (suc q) m ps h.1))))
 
 wide : (f : Children) (ps : List ℕ) → Ascending 1 (1 + size f) ps → Ascending 1 (suc (semicolon_at f)) ps
 wide f ps h = asc_between 1 1 (1 + size f) (suc (semicolon_at f)) ps (omega arith) (omega arith) h
@@ -111,12 +111,12 @@ accepted n text e =
         → (f : Children) × (parsed text ≡ sentence f) × Accepted n f × ((read_newick n text).list ≡ list_of n (sort_rows (map (row_of n) (edges_of f))))
     go (outside k) q (p1, ps) d =
         let ps' : AllPassed (text_checks n (outside k)) = subst (λ (p : Parsed). AllPassed (text_checks n p)) q ps in
-        absurd (true≢false (sym (rw (eq_eqb k k refl)) ∙ ps'.0 k (omega arith)))
+        absurd (true≢false (sym (rw (eq-eqb k k refl)) ∙ ps'.0 k (omega arith)))
     go (sentence f) q (p1, ps) d =
         let t = or_none (ltb n 2) (ltb 64 n) (p1 0 (omega arith)) in (
           f,
           q,
-          passed_all n f (ltb_false n 2 t.0) (ltb_false 64 n t.1) (subst (λ (p : Parsed). AllPassed (text_checks n p)) q ps),
+          passed_all n f (ltb-false n 2 t.0) (ltb-false 64 n t.1) (subst (λ (p : Parsed). AllPassed (text_checks n p)) q ps),
           rw d (ap (λ (p : Parsed). list_of n (rows_read n p)) q),
         )
 
@@ -125,7 +125,7 @@ sentence_accepted n f e =
     let d = done_of (outcome_of (newick_checks n (sentence f))) _ (never_short (newick_checks n (sentence f))) e in
     let (p1, ps) = (accepted_exactly (newick_checks n (sentence f))).0 d in
     let t = or_none (ltb n 2) (ltb 64 n) (p1 0 (omega arith)) in
-    passed_all n f (ltb_false n 2 t.0) (ltb_false 64 n t.1) ps
+    passed_all n f (ltb-false n 2 t.0) (ltb-false 64 n t.1) ps
 
 -- THE ROWS
 pub row_of_law : (n : ℕ) (es : List Edge) (r : Row) → Held r (map (row_of n) es) → (e : Edge) × InE e es × (r ≡ row_of n e)
@@ -139,7 +139,7 @@ kept_in (x ∷ es) e h = go (eqb x.weight 0) refl h (λ k. kept_in es e k)
   where
     go : (b : Bool) → eqb x.weight 0 ≡ b → InE e (cond b (kept_edges es) (x ∷ kept_edges es)) → (InE e (kept_edges es) → InE e es × (e.weight ≡ 0 → ⊥)) → ((e ≡ x) ⊎ InE e es) × (e.weight ≡ 0 → ⊥)
     go true q h ih = let (i, f) = ih h in (inr i, f)
-    go false q (inl p) ih = (inl p, λ z. eqb_false x.weight 0 q (sym (ap (λ (y : Edge). y.weight) p) ∙ z))
+    go false q (inl p) ih = (inl p, λ z. eqb-false x.weight 0 q (sym (ap (λ (y : Edge). y.weight) p) ∙ z))
     go false q (inr h) ih = let (i, f) = ih h in (inr i, f)
 
 pub none_test : (test : Edge → Bool) (es : List Edge) (e : Edge) → places_of test es ≡ [] → InE e es → test e ≡ false
@@ -179,7 +179,7 @@ module _ (n : ℕ) (f : Children) (a : Accepted n f) where
   rows = map (row_of n) (edges_of f)
 
   edge_split : (e : Edge) → InE e (edges_of f) → Split n (split_made n e)
-  edge_split e i = cluster_split n (omega (arith, a.two)) e (λ z. true≢false (sym (eq_eqb (split_made n e) 0 z) ∙ none_test (is_bare n) (edges_of f) e a.full i))
+  edge_split e i = cluster_split n (omega (arith, a.two)) e (λ z. true≢false (sym (eq-eqb (split_made n e) 0 z) ∙ none_test (is_bare n) (edges_of f) e a.full i))
 
   column_of : (g : Row → ℕ) (c : ℕ) → Mem c (map g (sort_rows (map (row_of n) (edges_of f)))) → (e : Edge) × InE e (edges_of f) × (c ≡ g (row_of n e))
   column_of g c m =
@@ -203,7 +203,7 @@ module _ (n : ℕ) (f : Children) (a : Accepted n f) where
         };
         weigh = λ w m.
             let (e, i, q) = column_of (λ r. r.weight) w m in
-            (positive w (λ z. (kept_in (edges_at 1 f) e i).1 (sym q ∙ z)), omega (arith, q, ltb_false weight_limit e.weight (none_test too_heavy (edges_of f) e a.light i)));
+            (positive w (λ z. (kept_in (edges_at 1 f) e i).1 (sym q ∙ z)), omega (arith, q, ltb-false weight_limit e.weight (none_test too_heavy (edges_of f) e a.light i)));
       }
     where
       positive : (w : ℕ) → (w ≡ 0 → ⊥) → 1 ≤ w

@@ -6,7 +6,7 @@ use mathlib.Core.Logic.{inl, inr}
 use mathlib.Core.Bool.{Bool, true, false, cond, not, ◌||◌}
 use mathlib.Core.List.{List, [], ◌∷◌, ◌++◌, map}
 use lib.Dec.{ltb, eqb}
-use borrow.Author.Tests.{lt_ltb, le_ltb, eqb_true, not_false}
+use borrow.Author.Tests.{lt-ltb, le-ltb, eqb-true, not-false}
 use Rattle.statement.specs.declared.Outcome.TheVariants.{Done}
 use Rattle.statement.specs.Lowest.{somewhere}
 use Rattle.statement.specs.Rows.{clusters, list_of, Mem}
@@ -29,7 +29,7 @@ use Rattle.newick_reading.proofs.Accepted.{Accepted, rows_clusters}
 no_strays : (n : ℕ) (before : List ℕ) (ls : List Leaf) → Good n before (taxa ls) → strays n before ls ≡ []
 unfolding strays
 no_strays n before [] g = refl
-no_strays n before (l ∷ ls) g = rw (lt_ltb l.taxon n g.0, g.1) (no_strays n (l.taxon ∷ before) ls g.2)
+no_strays n before (l ∷ ls) g = rw (lt-ltb l.taxon n g.0, g.1) (no_strays n (l.taxon ∷ before) ls g.2)
 
 pub accepted_reply : (n : ℕ) (f : Children) → Accepted n f → reading_of n (sentence f) ≡ record { outcome = Done; list = list_of n (sort_rows (map (row_of n) (edges_of f))) }
 accepted_reply n f a = rw done
@@ -38,7 +38,7 @@ accepted_reply n f a = rw done
     m = suc (semicolon_at f)
 
     few : (ltb n 2 || ltb 64 n) ≡ false
-    few = rw (le_ltb n 2 a.two, le_ltb 64 n a.few)
+    few = rw (le-ltb n 2 a.two, le-ltb 64 n a.few)
 
     s : strays n [] (leaves_of f) ≡ []
     s = no_strays n [] (leaves_of f) (subst (Good n []) (sym (taxa_leaves 1 f)) a.taxa)
@@ -62,7 +62,7 @@ all_of n f z = go (somewhere (λ x. not (among x (taxa_of f))) n) refl z
   where
     go : (b : Bool) → somewhere (λ x. not (among x (taxa_of f))) n ≡ b → cond b (semicolon_at f ∷ []) [] ≡ [] → (x : ℕ) → x < n → among x (taxa_of f) ≡ true
     go true e z x l = absurd (let y : ◌≡◌ {A = ℕ} 0 1 = cc in omega arith)
-    go false e z x l = not_false (among x (taxa_of f)) (none_of (λ x. not (among x (taxa_of f))) n e x l)
+    go false e z x l = not-false (among x (taxa_of f)) (none_of (λ x. not (among x (taxa_of f))) n e x l)
 
 pub none_missing : (n : ℕ) (f : Children) → All n f → missing n f ≡ []
 unfolding missing
@@ -94,7 +94,7 @@ later_on n c before [] f l = tt
 later_on n c before (e ∷ es) f l = (go (eqb (split_made n e) c) refl, later_on n c before es (λ m. f (inr m)) l.1)
   where
     go : (b : Bool) → eqb (split_made n e) c ≡ b → (b || among (split_made n e) before) ≡ false
-    go true q = absurd (f (inl (sym (eqb_true (split_made n e) c q))))
+    go true q = absurd (f (inl (sym (eqb-true (split_made n e) c q))))
     go false q = l.0
 
 pub twins_none : (n : ℕ) (es : List Edge) (before : List ℕ) → Later n before es → Different (map (row_of n) es) → twins n before es ≡ []

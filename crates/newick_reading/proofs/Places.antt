@@ -3,9 +3,9 @@ use Prim.Native.Nat.{ℕ, suc, ◌+◌, ◌≤◌, ◌<◌}
 use native.Mathlib.Omega.{arith}
 use mathlib.Core.Path.{◌≡◌, refl, sym, ◌∙◌, ap, subst}
 use mathlib.Core.Bool.{Bool, true, false, cond, not, ◌||◌}
-use mathlib.Core.List.{List, [], ◌∷◌, map, map_append}
+use mathlib.Core.List.{List, [], ◌∷◌, map, map-append}
 use lib.Dec.{ltb, eqb}
-use borrow.Author.Tests.{eq_eqb, ne_eqb}
+use borrow.Author.Tests.{eq-eqb, ne_eqb}
 use Rattle.statement.specs.declared.Outcome.TheVariants.{Refused}
 use Rattle.statement.specs.Rows.{Ascending}
 use Rattle.statement.specs.Refusals.{Check, outcome_of, places_of, strays, twins, bad_at}
@@ -43,7 +43,7 @@ leaves_up p (group f w) = asc_between (p + 1) p (p + 1 + size f) (p + size (grou
 leaves_up p (leaf_then x w r) =
     (omega arith, asc_between (past_leaf p x w) (suc p) (past_leaf p x w + size r) (p + size (leaf_then x w r)) (leaf_places (leaves_at (past_leaf p x w) r)) (omega arith) (omega (arith, size_leaf2 x w r)) (leaves_up (past_leaf p x w) r))
 leaves_up p (group_then f w r) =
-    subst (Ascending p (p + size (group_then f w r))) (sym (map_append (λ (l : Leaf). l.place) (leaves_at (p + 1) f) (leaves_at (past_group p f w) r)))
+    subst (Ascending p (p + size (group_then f w r))) (sym (map-append (λ (l : Leaf). l.place) (leaves_at (p + 1) f) (leaves_at (past_group p f w) r)))
     (asc_append p (p + 1 + size f) (p + size (group_then f w r)) (leaf_places (leaves_at (p + 1) f)) (leaf_places (leaves_at (past_group p f w) r))
     (asc_between (p + 1) p (p + 1 + size f) (p + 1 + size f) (leaf_places (leaves_at (p + 1) f)) (omega arith) (omega arith) (leaves_up (p + 1) f))
     (asc_between (past_group p f w) (p + 1 + size f) (past_group p f w + size r) (p + size (group_then f w r)) (leaf_places (leaves_at (past_group p f w) r)) (omega arith) (omega (arith, size_node2 f w r)) (leaves_up (past_group p f w) r)))
@@ -53,14 +53,14 @@ pub edges_up : (p : ℕ) (f : Children) → Ascending p (p + size f) (edge_place
 unfolding edges_at
 edges_up p (leaf x w) = (omega arith, omega (arith, size_leaf x w, width_some w))
 edges_up p (group f w) =
-    subst (Ascending p (p + size (group f w))) (sym (map_append (λ (e : Edge). e.place) (edges_at (p + 1) f) (edge_at (p + 1 + size f + 1 + 1) (taxa_of f) w ∷ [])))
+    subst (Ascending p (p + size (group f w))) (sym (map-append (λ (e : Edge). e.place) (edges_at (p + 1) f) (edge_at (p + 1 + size f + 1 + 1) (taxa_of f) w ∷ [])))
     (asc_append p (p + 1 + size f) (p + size (group f w)) (edge_places (edges_at (p + 1) f)) ((p + 1 + size f + 1 + 1) ∷ [])
     (asc_between (p + 1) p (p + 1 + size f) (p + 1 + size f) (edge_places (edges_at (p + 1) f)) (omega arith) (omega arith) (edges_up (p + 1) f))
     (omega arith, omega (arith, size_node f w, width_some w)))
 edges_up p (leaf_then x w r) =
     (omega arith, asc_between (past_leaf p x w) (suc (p + width x + 1)) (past_leaf p x w + size r) (p + size (leaf_then x w r)) (edge_places (edges_at (past_leaf p x w) r)) (omega arith) (omega (arith, size_leaf2 x w r)) (edges_up (past_leaf p x w) r))
 edges_up p (group_then f w r) =
-    subst (Ascending p (p + size (group_then f w r))) (sym (map_append (λ (e : Edge). e.place) (edges_at (p + 1) f) (edge_at (p + 1 + size f + 1 + 1) (taxa_of f) w ∷ edges_at (past_group p f w) r)))
+    subst (Ascending p (p + size (group_then f w r))) (sym (map-append (λ (e : Edge). e.place) (edges_at (p + 1) f) (edge_at (p + 1 + size f + 1 + 1) (taxa_of f) w ∷ edges_at (past_group p f w) r)))
     (asc_append p (p + 1 + size f) (p + size (group_then f w r)) (edge_places (edges_at (p + 1) f)) ((p + 1 + size f + 1 + 1) ∷ edge_places (edges_at (past_group p f w) r))
     (asc_between (p + 1) p (p + 1 + size f) (p + 1 + size f) (edge_places (edges_at (p + 1) f)) (omega arith) (omega arith) (edges_up (p + 1) f))
     (omega arith, asc_between (past_group p f w) (suc (p + 1 + size f + 1 + 1)) (past_group p f w + size r) (p + size (group_then f w r)) (edge_places (edges_at (past_group p f w) r)) (omega arith) (omega (arith, size_node2 f w r)) (edges_up (past_group p f w) r)))
@@ -119,7 +119,7 @@ module _ (number m : ℕ) (cs : List Check) where
   bad_refused p ps h =
       let l : p < m = omega (arith, asc_le (suc p) m ps h.1) in
       refused_at (bad_at number (p ∷ ps) m) cs p
-      (sym (lowest_at (λ i. among i (p ∷ ps)) m p l (rw (eq_eqb p p refl)) (λ j k. rw (ne_eqb j p (λ e. omega arith)) (below_first (suc p) m j ps h.1 (omega arith))))) l
+      (sym (lowest_at (λ i. among i (p ∷ ps)) m p l (rw (eq-eqb p p refl)) (λ j k. rw (ne_eqb j p (λ e. omega arith)) (below_first (suc p) m j ps h.1 (omega arith))))) l
 
   -- by the first of them, 0 where there is none
   pub bad_first : (p : ℕ) (ps : List ℕ) → Ascending 1 m ps → p ≡ taxa.head_or 0 ps → (p ≡ 0 → ⊥) → outcome_of (bad_at number ps m ∷ cs) ≡ Refused number p

@@ -6,8 +6,8 @@ use mathlib.Core.Logic.{◌⊎◌, inl, inr}
 use mathlib.Core.Bool.{Bool, true, false, cond, not, ◌||◌}
 use mathlib.Core.List.{List, [], ◌∷◌, ◌++◌, map}
 use lib.Dec.{ltb, eqb}
-use lib.ListN.{length, get_or, length_map}
-use borrow.Author.Tests.{lt_ltb, le_ltb, not_true, not_false}
+use lib.ListN.{length, get_or, length-map}
+use borrow.Author.Tests.{lt-ltb, le-ltb, not-true, not-false}
 use Rattle.statement.specs.declared.Splits.{Splits}
 use Rattle.statement.specs.declared.Reading.{Reading}
 use Rattle.statement.specs.declared.Outcome.TheVariants.{Done, Refused}
@@ -68,17 +68,17 @@ unfolding read_newick
 taxa_reply n text e = rw (refused_single 1 (ltb n 2 || ltb 64 n) (text_checks n (parsed text)) e)
 
 pub taxa_few : (n : ℕ) → n < 2 → (ltb n 2 || ltb 64 n) ≡ true
-taxa_few n l = rw (lt_ltb n 2 l)
+taxa_few n l = rw (lt-ltb n 2 l)
 
 pub taxa_many : (n : ℕ) → 64 < n → (ltb n 2 || ltb 64 n) ≡ true
-taxa_many n l = rw (lt_ltb 64 n l) (or_true (ltb n 2))
+taxa_many n l = rw (lt-ltb 64 n l) (or_true (ltb n 2))
   where
     or_true : (b : Bool) → (b || true) ≡ true
     or_true true = refl
     or_true false = refl
 
 taxa_good : (n : ℕ) → 2 ≤ n → n ≤ 64 → (ltb n 2 || ltb 64 n) ≡ false
-taxa_good n l m = rw (le_ltb n 2 l, le_ltb 64 n m)
+taxa_good n l m = rw (le-ltb n 2 l, le-ltb 64 n m)
 
 module _ (n : ℕ) (two : 2 ≤ n) (few : n ≤ 64) (text : List ℕ) where
   past_taxa : outcome_of (newick_checks n (parsed text)) ≡ outcome_of (text_checks n (parsed text))
@@ -156,7 +156,7 @@ module _ (n : ℕ) (two : 2 ≤ n) (few : n ≤ 64) (text : List ℕ) where
           go : (somewhere (λ x. not (among x (taxa_of f))) n ≡ true) ⊎ (somewhere (λ x. not (among x (taxa_of f))) n ≡ false) → missing n f ≡ semicolon_at f ∷ []
           go (inl e) = rw e
           go (inr e) =
-              absurd (h (seen_is ∙ group_all (λ x. among x (taxa_of f)) n (λ x l. not_false (among x (taxa_of f)) (none_of (λ x. not (among x (taxa_of f))) n e x l))))
+              absurd (h (seen_is ∙ group_all (λ x. among x (taxa_of f)) n (λ x l. not-false (among x (taxa_of f)) (none_of (λ x. not (among x (taxa_of f))) n e x l))))
 
       missing_none : r.met.seen ≡ 2 ^ n - 1 → missing n f ≡ []
       unfolding missing
@@ -165,7 +165,7 @@ module _ (n : ℕ) (two : 2 ≤ n) (few : n ≤ 64) (text : List ℕ) where
           go : (somewhere (λ x. not (among x (taxa_of f))) n ≡ true) ⊎ (somewhere (λ x. not (among x (taxa_of f))) n ≡ false) → missing n f ≡ []
           go (inl e) =
               let (x, l, q) = some_of (λ x. not (among x (taxa_of f))) n e in
-              absurd (group_some (λ x. among x (taxa_of f)) n x l (not_true (among x (taxa_of f)) q) (sym seen_is ∙ h))
+              absurd (group_some (λ x. among x (taxa_of f)) n x l (not-true (among x (taxa_of f)) q) (sym seen_is ∙ h))
           go (inr e) = rw e
 
       pub missing_reply : (r.met.seen ≡ 2 ^ n - 1 → ⊥) → refused_reply 20 r.at ≡ read_newick n text
@@ -263,7 +263,7 @@ module _ (n : ℕ) (two : 2 ≤ n) (few : n ≤ 64) (text : List ℕ) where
               at_is : j ≡ pos_by is_many (map (λ r. r.many) R)
               at_is =
                   at ∙ ap (λ t. lowest (λ i. is_many (get_or t.many i 0)) t.rows) table_is
-                  ∙ ap (lowest (λ i. is_many (get_or (filled (map (λ r. r.many) R)) i 0))) (sym (length_map R (λ r. r.many)))
+                  ∙ ap (lowest (λ i. is_many (get_or (filled (map (λ r. r.many) R)) i 0))) (sym (length-map R (λ r. r.many)))
                   ∙ pos_filled is_many (map (λ r. r.many) R)
 
               rows_is : r.table.rows ≡ length R

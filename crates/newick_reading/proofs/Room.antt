@@ -6,9 +6,9 @@ use mathlib.Core.Logic.{◌⊎◌, inl, inr, ⊎_elim}
 use mathlib.Core.Bool.{Bool, true, false, cond, ◌||◌, true≢false, false≢true}
 use mathlib.Core.List.{List, [], ◌∷◌, map}
 use lib.Dec.{eqb}
-use lib.ListN.{length, get_or, length_map}
+use lib.ListN.{length, get_or, length-map}
 use lib.Pow.{pow_pos}
-use borrow.Author.Tests.{eqb_true, eqb_false, eq_eqb}
+use borrow.Author.Tests.{eqb-true, eqb-false, eq-eqb}
 use Rattle.statement.specs.Cluster.{Split, Conflict}
 use Rattle.statement.specs.Rows.{Row, row, clusters, Mem, Ascending}
 use Rattle.statement.specs.Tree.{sort_rows}
@@ -24,7 +24,7 @@ use Rattle.newick_noted.proofs.Once.{clusters_e, clusters_h, Distinct, distinct_
 use Rattle.newick_reading.proofs.Nested.{InE, Nest, nested, no_conflict, cluster_split}
 
 pub mem_among : (x : ℕ) (xs : List ℕ) → Mem x xs → among x xs ≡ true
-mem_among x (y ∷ ys) (inl e) = rw (eq_eqb x y e)
+mem_among x (y ∷ ys) (inl e) = rw (eq-eqb x y e)
 mem_among x (y ∷ ys) (inr m) = or_right (eqb x y) (among x ys) (mem_among x ys m)
 
 pub among_mem : (x : ℕ) (xs : List ℕ) → among x xs ≡ true → Mem x xs
@@ -32,7 +32,7 @@ among_mem x [] e = absurd (false≢true e)
 among_mem x (y ∷ ys) e = go (eqb x y) refl e (λ k. among_mem x ys k)
   where
     go : (b : Bool) → eqb x y ≡ b → (b || among x ys) ≡ true → (among x ys ≡ true → Mem x ys) → (x ≡ y) ⊎ Mem x ys
-    go true q e ih = inl (eqb_true x y q)
+    go true q e ih = inl (eqb-true x y q)
     go false q e ih = inr (ih e)
 
 bare : List ℕ → List Row
@@ -56,7 +56,7 @@ module _ (n : ℕ) (two : 2 ≤ n) (E : List Edge) (nest : (a b : Edge) → InE 
 
   count : length sorted ≡ length cs
   unfolding sorted bare
-  count = length_map (sort_rows (bare cs)) (λ r. r.cluster) ∙ sort_length (bare cs) ∙ length_map cs (λ c. row c 0)
+  count = length-map (sort_rows (bare cs)) (λ r. r.cluster) ∙ sort_length (bare cs) ∙ length-map cs (λ c. row c 0)
 
   held_in : (r : Row) → Held r (bare cs) → among r.cluster cs ≡ true
   held_in r h = mem_among r.cluster cs (subst (Mem r.cluster) (bare_clusters cs) (held_mem (λ r. r.cluster) r (bare cs) h))
@@ -98,7 +98,7 @@ solid_of n (e ∷ es) x h = go (eqb (min e.weight number_limit) 0) (eqb (split_m
     here : (b : Bool) → eqb x (split_made n e) ≡ b → (split_made n e ≡ 0 → ⊥) → (b || among x (clusters_e (solid (map (entry_of n) es)))) ≡ true
         → (among x (clusters_e (solid (map (entry_of n) es))) ≡ true → (d : Edge) × InE d es × (x ≡ split_made n d) × (x ≡ 0 → ⊥))
         → (d : Edge) × ((d ≡ e) ⊎ InE d es) × (x ≡ split_made n d) × (x ≡ 0 → ⊥)
-    here true q f h ih = let p = eqb_true x (split_made n e) q in (e, inl refl, p, λ z. f (sym p ∙ z))
+    here true q f h ih = let p = eqb-true x (split_made n e) q in (e, inl refl, p, λ z. f (sym p ∙ z))
     here false q f h ih = later (ih h)
 
     go : (a b : Bool) → eqb (split_made n e) 0 ≡ b
@@ -107,7 +107,7 @@ solid_of n (e ∷ es) x h = go (eqb (min e.weight number_limit) 0) (eqb (split_m
         → (d : Edge) × ((d ≡ e) ⊎ InE d es) × (x ≡ split_made n d) × (x ≡ 0 → ⊥)
     go true b q h ih = later (ih h)
     go false true q h ih = later (ih h)
-    go false false q h ih = here (eqb x (split_made n e)) refl (eqb_false (split_made n e) 0 q) h ih
+    go false false q h ih = here (eqb x (split_made n e)) refl (eqb-false (split_made n e) 0 q) h ih
 
 pub entered_of : (n : ℕ) (es : List Edge) (x : ℕ) → among x (clusters_h (add_all [] (solid (map (entry_of n) es)))) ≡ true
     → (e : Edge) × InE e es × (x ≡ split_made n e) × (x ≡ 0 → ⊥)
@@ -118,4 +118,4 @@ pub enough : (n : ℕ) (f : Children) → 2 ≤ n → Good n [] (taxa_of f) → 
 enough n f two g =
     let R = add_all [] (solid (map (entry_of n) (edges_at 1 f))) in
     let h = room n two (edges_at 1 f) (nested n f 1 [] g) (clusters_h R) (distinct_all (solid (map (entry_of n) (edges_at 1 f))) [] tt) (entered_of n (edges_at 1 f)) in
-    omega (arith, length_map R (λ r. r.cluster), h)
+    omega (arith, length-map R (λ r. r.cluster), h)

@@ -6,7 +6,7 @@ use mathlib.Core.Path.{◌≡◌, refl, sym, ◌∙◌, ap, ap₂}
 use mathlib.Core.Bool.{Bool, true, false, cond, ◌||◌}
 use mathlib.Core.List.{List, [], ◌∷◌, map}
 use lib.Dec.{ltb, eqb}
-use borrow.Author.Tests.{ltb_false, lt_ltb, le_ltb, ne_eqb}
+use borrow.Author.Tests.{ltb-false, lt-ltb, le-ltb, ne_eqb}
 use Rattle.statement.specs.Matrix.{weight_limit}
 use Rattle.statement.specs.Rows.{Row, row}
 use Rattle.numerals.specs.Numerals.{number_limit}
@@ -26,8 +26,8 @@ limit_cut : (w : ℕ) → ltb weight_limit (min w number_limit) ≡ ltb weight_l
 limit_cut w = go (dec_lt weight_limit w)
   where
     go : Dec (weight_limit < w) → ltb weight_limit (min w number_limit) ≡ ltb weight_limit w
-    go (yes h) = lt_ltb weight_limit (min w number_limit) (omega arith) ∙ sym (lt_ltb weight_limit w h)
-    go (no h) = le_ltb weight_limit (min w number_limit) (omega arith) ∙ sym (le_ltb weight_limit w (omega arith))
+    go (yes h) = lt-ltb weight_limit (min w number_limit) (omega arith) ∙ sym (lt-ltb weight_limit w h)
+    go (no h) = le-ltb weight_limit (min w number_limit) (omega arith) ∙ sym (le-ltb weight_limit w (omega arith))
 
 abbrev pub too_heavy : Edge → Bool
 too_heavy e = ltb weight_limit e.weight
@@ -95,6 +95,6 @@ rows_are n (e ∷ es) z = go (too_heavy e) refl z (λ k. rows_are n es k)
         → row (split_made n e) (min e.weight number_limit) ∷ map (λ r. row r.cluster r.weight) (map held (map (entry_of n) es)) ≡ row_of n e ∷ map (row_of n) es
     go true q z ih = cons_nil z
     go false q z ih =
-        let l = ltb_false weight_limit e.weight q in
+        let l = ltb-false weight_limit e.weight q in
         let m : min e.weight number_limit ≡ e.weight = omega arith in
         ap₂ (λ (w : ℕ) (s : List Row). row (split_made n e) w ∷ s) m (ih z)

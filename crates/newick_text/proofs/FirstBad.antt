@@ -1,12 +1,12 @@
 -- WHERE THE AUTOMATON STOPS is the text's first bad byte, and there is one such place. Assumes nothing.
 use mathlib.Core.Path.{◌≡◌, refl, ap, sym, ◌∙◌, subst}
 use mathlib.Core.Bool.{Bool, true, false, cond}
-use mathlib.Core.List.{List, [], ◌∷◌, ◌++◌, append_assoc, append_nil}
+use mathlib.Core.List.{List, [], ◌∷◌, ◌++◌, append_assoc, append-nil}
 use Prim.Native.Nat.{ℕ, zero, suc, ◌+◌, ◌-◌, ◌≤◌, ◌<◌}
 use native.Mathlib.Omega.{arith}
 use lib.Dec.{eqb}
-use lib.ListN.{length, take, drop, get_or, length_append, take_append_drop}
-use lib.Seq.{drop_cons, take_suc, append_snoc, take_take}
+use lib.ListN.{length, take, drop, get_or, length-append, take-append-drop}
+use lib.Seq.{drop-cons, take-suc, append_snoc, take-take}
 use native.Mathlib.Decide.{dec_lt}
 use Rattle.newick_text.specs.Automaton.{Use, taxon, weight, State, start, want, some, over, close, Step, stop, end, move, bad, good, opened, closed, first, after, next, pick, run, whole}
 use Rattle.statement.specs.Decimal.{digit}
@@ -130,7 +130,7 @@ Alive p q = (q' : State) × Live q' × ((s : List ℕ) → run (p ++ s) q ≡ ru
 
 alive_by : (c : ℕ) (p r : List ℕ) (q : State) (x : Step) → next q c ≡ x → LiveStep x → ((q' : State) → Live q' → run (p ++ r) q' ≡ bad r → Alive p q') → pick x (bad (c ∷ (p ++ r))) (good (p ++ r)) (run (p ++ r)) ≡ bad r → Alive (c ∷ p) q
 unfolding Alive
-alive_by c p r q stop n v ih e = absurd (let h : suc (length (p ++ r)) ≡ length r = ap length (bad_one e) in omega (arith, length_append p r))
+alive_by c p r q stop n v ih e = absurd (let h : suc (length (p ++ r)) ≡ length r = ap length (bad_one e) in omega (arith, length-append p r))
 alive_by c p r q end n v ih e = good_bad e
 alive_by c p r q (move q₁) n v ih e = let w : Alive p q₁ = ih q₁ v e in (w.0, w.1, λ s. to c (p ++ s) q n ∙ w.2 s)
 
@@ -150,10 +150,10 @@ stops c s q e = stop_by c s (next q c) (sym (step_run c s q (next q c) refl) ∙
 
 -- a sentence is a text that a tree draws, and a text that a tree draws is a sentence
 drawn_by : (s : List ℕ) → IsSentence s → (f : Children) × Fits f 129 × (s ≡ 40 ∷ children_text f (41 ∷ 59 ∷ []))
-drawn_by s d = (by_productions 129 s []).0 (s, d, sym (append_nil s))
+drawn_by s d = (by_productions 129 s []).0 (s, d, sym (append-nil s))
 
 is_sentence : (s : List ℕ) (f : Children) → Fits f 129 → s ≡ 40 ∷ children_text f (41 ∷ 59 ∷ []) → IsSentence s
-is_sentence s f i e = let (u, d, q) = (by_productions 129 s []).1 (f, i, e) in subst IsSentence (sym (q ∙ append_nil u)) d
+is_sentence s f i e = let (u, d, q) = (by_productions 129 s []).1 (f, i, e) in subst IsSentence (sym (q ∙ append-nil u)) d
 
 -- p, after which reading stops, begins a sentence
 viable : (p r : List ℕ) → run (p ++ r) (start 130) ≡ bad r → Viable p
@@ -179,15 +179,15 @@ pub first_bad : (t : List ℕ) (k : ℕ) → run t (start 130) ≡ bad (drop k t
 first_bad t k e h = record { outside = out; within = h; before = viable (take k t) (drop k t) whole; here = at }
   where
     whole : run (take k t ++ drop k t) (start 130) ≡ bad (drop k t)
-    whole = ap (λ (x : List ℕ). run x (start 130)) (take_append_drop k t) ∙ e
+    whole = ap (λ (x : List ℕ). run x (start 130)) (take-append-drop k t) ∙ e
 
     out : (s rest : List ℕ) → IsSentence s → t ≡ s ++ rest → ⊥
     out s rest d q = good_bad (sym ((accepts_exactly t rest).1 (s, d, q)) ∙ e)
 
     at : k < length t → Viable (take (suc k) t) → ⊥
     at b v = not_viable (get_or t k 0) (take k t) (drop (suc k) t)
-        (rw (sym (drop_cons t k 0 b)) whole)
-        (rw (sym (take_suc t k 0 b)) v)
+        (rw (sym (drop-cons t k 0 b)) whole)
+        (rw (sym (take-suc t k 0 b)) v)
 
 -- and it is one place
 shorter : (p q : List ℕ) → Viable (p ++ q) → Viable p
@@ -198,7 +198,7 @@ not_later t k m a b h =
     let g : k < length t = omega (arith, b.within) in
     let i : suc k ≤ m = omega arith in
     a.here g (shorter (take (suc k) t) (drop (suc k) (take m t))
-    (rw (sym (ap (λ (x : List ℕ). x ++ drop (suc k) (take m t)) (take_take (suc k) m t i)) ∙ take_append_drop (suc k) (take m t)) b.before))
+    (rw (sym (ap (λ (x : List ℕ). x ++ drop (suc k) (take m t)) (take-take (suc k) m t i)) ∙ take-append-drop (suc k) (take m t)) b.before))
 
 pub one_place : (t : List ℕ) (k m : ℕ) → FirstBad t k → FirstBad t m → k ≡ m
 one_place t k m a b = elim (dec_lt k m) [ yes p ↦ absurd (not_later t k m a b p) | no f ↦ elim (dec_lt m k) [ yes p ↦ absurd (not_later t m k b a p) | no g ↦ omega arith ] ]

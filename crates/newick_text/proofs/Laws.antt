@@ -3,12 +3,12 @@ use mathlib.Core.Path.{◌≡◌, refl, ap, sym, ◌∙◌}
 use mathlib.Core.Bool.{true, false}
 use mathlib.Core.List.{List}
 use Prim.Native.Nat.{ℕ, zero, suc, ◌+◌, ◌-◌, ◌≤◌, ◌<◌}
-use native.Mathlib.Numerals.{sub_one}
+use native.Mathlib.Numerals.{sub-one}
 use native.Mathlib.Decide.{dec_lt}
 use native.Mathlib.Omega.{arith}
-use lib.ListN.{length, drop, get_or, drop_of_length_le, get_or_eq_default}
-use lib.Seq.{drop_cons}
-use borrow.Author.Tests.{lt_ltb, le_ltb, ne_eqb}
+use lib.ListN.{length, drop, get_or, drop_of_length-le, get_or-eq_default}
+use lib.Seq.{drop-cons}
+use borrow.Author.Tests.{lt-ltb, le-ltb, ne_eqb}
 use Rattle.newick_text.specs.declared.Took.{Took}
 use Rattle.newick_text.specs.declared.Took.TheVariants.{Past, Bad}
 use Rattle.newick_text.specs.Automaton.{Use, taxon, weight, State, start, want, some, over, close, stop, end, move, bad, good, first, next, run, never, inside, Colon, ran, whole, place_of, law_move, law_stop, law_good}
@@ -16,16 +16,16 @@ use Rattle.statement.specs.Decimal.{digit}
 
 pub same_next : (t : List ℕ) (at : ℕ) (q q' : State) → next q (get_or t at 256) ≡ next q' (get_or t at 256) → run (drop at t) q ≡ run (drop at t) q'
 unfolding run
-same_next t at q q' e = elim (dec_lt at (length t)) [ yes p ↦ rw (drop_cons t at 256 p, e) | no f ↦ rw (drop_of_length_le t (let h : length t ≤ at = omega arith in h)) ]
+same_next t at q q' e = elim (dec_lt at (length t)) [ yes p ↦ rw (drop-cons t at 256 p, e) | no f ↦ rw (drop_of_length-le t (let h : length t ≤ at = omega arith in h)) ]
 
 pub digit_yes : (c : ℕ) → 48 ≤ c → c < 58 → digit c ≡ true
-digit_yes c h k = simp (lt_ltb 47 c (let l : 47 < c = omega arith in l), lt_ltb c 58 k)
+digit_yes c h k = simp (lt-ltb 47 c (let l : 47 < c = omega arith in l), lt-ltb c 58 k)
 
 pub digit_low : (c : ℕ) → c < 48 → digit c ≡ false
-digit_low c h = simp (le_ltb 47 c (let l : c ≤ 47 = omega arith in l))
+digit_low c h = simp (le-ltb 47 c (let l : c ≤ 47 = omega arith in l))
 
 pub digit_high : (c : ℕ) → 58 ≤ c → digit c ≡ false
-digit_high c h = simp (lt_ltb 47 c (let k : 47 < c = omega arith in k), le_ltb c 58 h)
+digit_high c h = simp (lt-ltb 47 c (let k : 47 < c = omega arith in k), le-ltb c 58 h)
 
 pub some_over : (u : Use) (d l c : ℕ) → digit c ≡ false → next (some u d l) c ≡ next (over u d l) c
 some_over u d l c e = rw e
@@ -40,7 +40,7 @@ module _ (t : List ℕ) (at : ℕ) (q : State) (c : ℕ) (e : c ≡ get_or t at 
     where
       out : (q' : State) → next q c ≡ move q' → length t ≤ at → ⊥
       out q' n h =
-          let k : c ≡ 256 = e ∙ get_or_eq_default t 256 h in
+          let k : c ≡ 256 = e ∙ get_or-eq_default t 256 h in
           let s : stop ≡ move q' = sym (never q) ∙ sym (ap (next q) k) ∙ n in
           let z : ◌≡◌ {A = ℕ} 0 1 = cc in omega arith
 
@@ -120,11 +120,11 @@ want_full d l c e z = rw (e, z)
 
 pub want_deeper : (d l c : ℕ) → c ≡ 40 → (l ≡ 0 → ⊥) → next (want taxon d l) c ≡ move (want taxon (suc d) (l - 1))
 want_deeper d zero c e z = absurd (z refl)
-want_deeper d (suc l) c e z = rw (e, sub_one)
+want_deeper d (suc l) c e z = rw (e, sub-one)
 
 pub suc_pred : (l : ℕ) → (l ≡ 0 → ⊥) → suc (l - 1) ≡ l
 suc_pred zero z = absurd (z refl)
-suc_pred (suc l) z = rw sub_one
+suc_pred (suc l) z = rw sub-one
 
 pub start_open : (l c : ℕ) → c ≡ 40 → next (start (suc l)) c ≡ move (want taxon 1 l)
 start_open l c e = rw e

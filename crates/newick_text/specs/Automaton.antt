@@ -1,10 +1,10 @@
 -- NEWICK TEXT BYTE BY BYTE: which byte may come next, as an automaton. The recogniser's contracts speak of it; that it accepts exactly the sentences of the
 -- grammar is proved in proofs/Productions.antt, that it stops at the first bad byte in proofs/FirstBad.antt.
 use Rattle.std.specs.Prelude.{◌≡◌, refl, List, [], ◌∷◌, ℕ, zero, suc, ◌+◌, ◌≤◌, ◌<◌, cond, eqb, length, drop, get_or}
-use Rattle.std.proofs.Common.{sym, ◌∙◌, add_one, drop_of_length_le, arith}
-use Rattle.std.proofs.Math.ListN.{get_or_eq_default}
+use Rattle.std.proofs.Common.{sym, ◌∙◌, add-one, drop_of_length-le, arith}
+use Rattle.std.proofs.Math.ListN.{get_or-eq_default}
 use Rattle.std.proofs.Math.Decide.{dec_lt}
-use Rattle.std.proofs.Math.Seq.{drop_cons}
+use Rattle.std.proofs.Math.Seq.{drop-cons}
 use Rattle.statement.specs.Decimal.{digit}
 use Rattle.newick_text.specs.declared.Took.{Took}
 use Rattle.newick_text.specs.declared.Took.TheVariants.{Past, Bad}
@@ -103,27 +103,27 @@ never (close (suc d) l) = refl
 
 pub get_d_any : (l : List ℕ) (i a b : ℕ) → i < length l → get_or l i a ≡ get_or l i b
 get_d_any l i a b h =
-    let e : get_or l i a ∷ drop (suc i) l ≡ get_or l i b ∷ drop (suc i) l = sym (drop_cons l i a h) ∙ drop_cons l i b h in cc
+    let e : get_or l i a ∷ drop (suc i) l ≡ get_or l i b ∷ drop (suc i) l = sym (drop-cons l i a h) ∙ drop-cons l i b h in cc
 
 pub inside : (t : List ℕ) (at : ℕ) → get_or t at 256 < 256 → at < length t
-inside t at h = elim (dec_lt at (length t)) [ yes p ↦ p | no f ↦ absurd (let e : get_or t at 256 ≡ 256 = get_or_eq_default t 256 (omega arith) in omega arith) ]
+inside t at h = elim (dec_lt at (length t)) [ yes p ↦ p | no f ↦ absurd (let e : get_or t at 256 ≡ 256 = get_or-eq_default t 256 (omega arith) in omega arith) ]
 
 module _ (t : List ℕ) (at : ℕ) (q : State) where
   at_end : length t ≤ at → run (drop at t) q ≡ bad (drop at t)
   unfolding run
-  at_end h = rw (drop_of_length_le t h)
+  at_end h = rw (drop_of_length-le t h)
 
   stops : at < length t → next q (get_or t at 256) ≡ stop → run (drop at t) q ≡ bad (drop at t)
   unfolding run
-  stops h e = rw (drop_cons t at 256 h, e)
+  stops h e = rw (drop-cons t at 256 h, e)
 
   pub law_stop : next q (get_or t at 256) ≡ stop → run (drop at t) q ≡ bad (drop at t)
   law_stop e = elim (dec_lt at (length t)) [ yes p ↦ stops p e | no f ↦ at_end (omega arith) ]
 
   pub law_move : {q' : State} → next q (get_or t at 256) ≡ move q' → at < length t → run (drop at t) q ≡ run (drop (at + 1) t) q'
   unfolding run
-  law_move e h = rw (add_one, drop_cons t at 256 h, e)
+  law_move e h = rw (add-one, drop-cons t at 256 h, e)
 
   pub law_good : next q (get_or t at 256) ≡ end → at < length t → run (drop at t) q ≡ good (drop (at + 1) t)
   unfolding run
-  law_good e h = rw (add_one, drop_cons t at 256 h, e)
+  law_good e h = rw (add-one, drop-cons t at 256 h, e)

@@ -5,7 +5,7 @@ use mathlib.Core.Path.{◌≡◌, sym, ◌∙◌, ap}
 use mathlib.Core.List.{List, [], ◌∷◌}
 use lib.Dec.{eqb}
 use lib.ListN.{length, get_or}
-use borrow.Author.Tests.{eq_eqb}
+use borrow.Author.Tests.{eq-eqb}
 use Rattle.statement.proofs.Tests.{fails_is}
 use Rattle.statement.specs.NewickText.{Shape, those_from, homed, children}
 use Rattle.newick_list.proofs.Room.{alone_is}
@@ -17,14 +17,14 @@ having_all xs x e = ap (those_from (λ j. eqb (get_or xs j 0) x) 0) (let z : e -
 
 module _ (xs : List ℕ) (x i e r : ℕ) (next : Next xs x i e r) where
   pub next_some : r < e → having xs x i e ≡ r ∷ having xs x (r + 1) e
-  next_some l = next.same ∙ those_take (λ j. eqb (get_or xs j 0) x) e r l (eq_eqb (get_or xs r 0) x (next.hit l))
+  next_some l = next.same ∙ those_take (λ j. eqb (get_or xs j 0) x) e r l (eq-eqb (get_or xs r 0) x (next.hit l))
 
   pub next_none : e ≤ r → having xs x i e ≡ []
   next_none l = next.same ∙ those_end (λ j. eqb (get_or xs j 0) x) e r l
 
 -- and where one stands at i already
 pub here_some : (xs : List ℕ) (x e r : ℕ) → r < e → get_or xs r 0 ≡ x → having xs x r e ≡ r ∷ having xs x (r + 1) e
-here_some xs x e r l h = those_take (λ j. eqb (get_or xs j 0) x) e r l (eq_eqb (get_or xs r 0) x h)
+here_some xs x e r l h = those_take (λ j. eqb (get_or xs j 0) x) e r l (eq-eqb (get_or xs r 0) x h)
 
 module _ (n m : ℕ) (ls hs : List ℕ) (v : ℕ) where
   abbrev t : Shape

@@ -5,7 +5,7 @@ use mathlib.Core.Path.{◌≡◌, sym, ◌∙◌, ap, ap₂}
 use mathlib.Core.Bool.{Bool, cond}
 use mathlib.Core.List.{List, [], ◌∷◌, ◌++◌, map}
 use lib.Dec.{eqb}
-use lib.ListN.{length, get_or, set, length_append}
+use lib.ListN.{length, get_or, set, length-append}
 use lib.Seq.{sets}
 use Rattle.statement.specs.Decimal.{decimal}
 use Rattle.statement.specs.NewickText.{Shape, homed, led, bracketed, leaf_text, child_text, items, vertex_text}
@@ -39,7 +39,7 @@ module _ (n m : ℕ) (ls hs ws : List ℕ) (v r : ℕ) (lone : Lone (shape_in n 
 
 module _ (n m : ℕ) (ls hs ws : List ℕ) (v : ℕ) (text : vertex_text (shape_in n m ls hs ws) v ≡ opened n m ls hs ws v ++ (41 ∷ [])) where
   pub opened_length : length (vertex_text (shape_in n m ls hs ws) v) ≡ length (opened n m ls hs ws v) + 1
-  opened_length = ap length text ∙ length_append (opened n m ls hs ws v) (41 ∷ [])
+  opened_length = ap length text ∙ length-append (opened n m ls hs ws v) (41 ∷ [])
 
   pub own_length : length (led 40 (own n hs v)) ≤ length (vertex_text (shape_in n m ls hs ws) v)
   own_length = omega (arith, opened_length, rest_longer [] 0 (own n hs v) (kids n m ls hs ws v 0))

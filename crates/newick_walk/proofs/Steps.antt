@@ -7,8 +7,8 @@ use Prim.Native.Nat.{ℕ, ◌+◌, ◌-◌, ◌≤◌, ◌<◌}
 use native.Mathlib.Omega.{arith}
 use lib.Dec.{ltb, leb, eqb}
 use native.Mathlib.Decide.{dec_lt}
-use lib.ListN.{length, drop, get_or, set, replicate, get_or_eq_default}
-use borrow.Author.Tests.{lt_ltb, le_ltb, eq_eqb, ne_eqb, le_leb, lt_leb}
+use lib.ListN.{length, drop, get_or, set, replicate, get_or-eq_default}
+use borrow.Author.Tests.{lt-ltb, le-ltb, eq-eqb, ne_eqb, le-leb, lt-leb}
 use Rattle.newick_edges.specs.declared.Met.{Met}
 use Rattle.newick_edges.specs.Marks.{meet, mask_of, side}
 use Rattle.newick_edges.specs.Table.{Table, enter}
@@ -27,23 +27,23 @@ closed_at w b = record { at = w.at + 1; depth = w.depth - 1; opened = w.opened; 
 module _ (w : Walk) where
   pub opens_full : 131 ≤ w.depth → passing w ≡ opening w
   unfolding opening
-  opens_full h = rw (le_ltb w.depth 131 h)
+  opens_full h = rw (le-ltb w.depth 131 h)
 
   pub opens_at : w.depth < 131 → opened_at w ≡ opening w
   unfolding opening
-  opens_at h = rw (lt_ltb w.depth 131 h)
+  opens_at h = rw (lt-ltb w.depth 131 h)
 
   pub closes_none : w.depth ≡ 0 → passing w ≡ closing w
   unfolding closing
-  closes_none h = rw (eq_eqb w.depth 0 h)
+  closes_none h = rw (eq-eqb w.depth 0 h)
 
   pub closes_full : (w.depth ≡ 0 → ⊥) → 131 ≤ w.depth - 1 → passing w ≡ closing w
   unfolding closing
-  closes_full f h = rw (ne_eqb w.depth 0 f, le_leb 131 (w.depth - 1) h)
+  closes_full f h = rw (ne_eqb w.depth 0 f, le-leb 131 (w.depth - 1) h)
 
   pub closes_at : (w.depth ≡ 0 → ⊥) → w.depth - 1 < 131 → closed_at w (w.met.seen - get_or w.opened (w.depth - 1) 0) ≡ closing w
   unfolding closing
-  closes_at f h = rw (ne_eqb w.depth 0 f, lt_leb 131 (w.depth - 1) h)
+  closes_at f h = rw (ne_eqb w.depth 0 f, lt-leb 131 (w.depth - 1) h)
 
   -- what the steps leave
   pub opening_at : ((opening w).at ≡ w.at + 1) × ((opening w).depth ≤ w.depth + 1) × ((opening w).table ≡ w.table)
@@ -105,9 +105,9 @@ unfolding stops_at
 stops_high c l = go (dec_lt c 58) (dec_lt 58 c)
   where
     go : Dec (c < 58) → Dec (58 < c) → ltb 58 c ≡ stops_at c
-    go (yes h) d = rw (digit_yes c l h, le_ltb 58 c (let k : c ≤ 58 = omega arith in k))
+    go (yes h) d = rw (digit_yes c l h, le-ltb 58 c (let k : c ≤ 58 = omega arith in k))
     go (no h) (no g) = let e : c ≡ 58 = omega arith in rw e
-    go (no h) (yes g) = rw (digit_high c (let k : 58 ≤ c = omega arith in k), lt_ltb 58 c g, ne_eqb c 40 (λ e. omega arith), ne_eqb c 41 (λ e. omega arith), ne_eqb c 44 (λ e. omega arith), ne_eqb c 58 (λ e. omega arith))
+    go (no h) (yes g) = rw (digit_high c (let k : 58 ≤ c = omega arith in k), lt-ltb 58 c g, ne_eqb c 40 (λ e. omega arith), ne_eqb c 41 (λ e. omega arith), ne_eqb c 44 (λ e. omega arith), ne_eqb c 58 (λ e. omega arith))
 
 pub digit_left : (c : ℕ) → stops_at c ≡ false → (c ≡ 40 → ⊥) → (c ≡ 41 → ⊥) → (c ≡ 44 → ⊥) → (c ≡ 58 → ⊥) → digit c ≡ true
 unfolding stops_at
@@ -123,7 +123,7 @@ inside_of t at c e s = go (dec_lt at (length t))
   where
     go : Dec (at < length t) → at < length t
     go (yes h) = h
-    go (no h) = absurd (let z : c ≡ 256 = e ∙ get_or_eq_default t 256 (omega arith) in true≢false (rw z at s))
+    go (no h) = absurd (let z : c ≡ 256 = e ∙ get_or-eq_default t 256 (omega arith) in true≢false (rw z at s))
 
 -- ON, within the text
 module _ (n : ℕ) (t : List ℕ) (w r : Walk) (c : ℕ) (k : Ready n t w c) where

@@ -4,7 +4,7 @@ use native.Mathlib.Omega.{arith}
 use native.Mathlib.Decide.{ℕ_discrete}
 use mathlib.Core.Path.{◌≡◌, refl, sym, ◌∙◌}
 use mathlib.Core.List.{List, [], ◌∷◌}
-use lib.ListN.{length, length_append}
+use lib.ListN.{length, length-append}
 use Rattle.statement.specs.declared.Splits.{Splits}
 use Rattle.statement.specs.declared.Outcome.TheVariants.{Done, Refused}
 use Rattle.statement.specs.Rows.{rows_of}
@@ -37,7 +37,7 @@ newick_short n s before hc hw done = go (ℕ_discrete (whole_refusal n s) 0)
         omega (
           arith,
           (length_given n s before e).1,
-          length_append (vertex_text (shape_of n (rows_of s)) (length (rows_of s))) (59 ∷ []),
+          length-append (vertex_text (shape_of n (rows_of s)) (length (rows_of s))) (59 ∷ []),
           given_short n s ok.few (taken_list n s hc hw ok) ok.whole hc hw,
         )
     go (no o) = absurd (refused_done ((length_refused n s before o).0 ∙ done))

@@ -1,16 +1,16 @@
 -- Laws of the numbers in a text, for loops that pass it byte by byte. Assumes nothing.
 use Prim.Native.Nat.{ℕ, zero, suc, ◌+◌, ◌*◌, ◌-◌, ◌≤◌, ◌<◌, min}
 use native.Mathlib.Omega.{arith}
-use native.Mathlib.Numerals.{add_one}
+use native.Mathlib.Numerals.{add-one}
 use native.Mathlib.Decide.{dec_lt}
 use mathlib.Core.Logic.{◌⊎◌, inl, inr}
 use mathlib.Core.Path.{◌≡◌, refl, sym, ◌∙◌, ap}
 use mathlib.Core.Bool.{Bool, true, false, cond, not, ◌&&◌, true≢false}
 use mathlib.Core.List.{List, [], ◌∷◌}
 use lib.Dec.{ltb, eqb}
-use borrow.Author.Tests.{ltb_true, ltb_false, lt_ltb, le_ltb, eq_eqb, ne_eqb}
-use lib.ListN.{length, get_or, drop, get_or_map}
-use lib.Seq.{drop_cons, drop_nil}
+use borrow.Author.Tests.{ltb-true, ltb-false, lt-ltb, le-ltb, eq-eqb, ne_eqb}
+use lib.ListN.{length, get_or, drop, get_or-map}
+use lib.Seq.{drop-cons, drop-nil}
 use Rattle.statement.specs.Decimal.{digit, on_from, span}
 use Rattle.numerals.specs.Numerals.{space, starts_at, number_at, starts_from, starts_in, numbers_in, number_limit, wrong_at}
 use Rattle.numerals.specs.declared.Place.{Place}
@@ -21,7 +21,7 @@ abbrev pub too_large : ℕ
 too_large = 4294967296
 
 drop_all : (xs : List ℕ) (i : ℕ) → length xs ≤ i → drop i xs ≡ []
-drop_all [] i l = drop_nil i
+drop_all [] i l = drop-nil i
 drop_all (x ∷ xs) zero l = absurd (omega arith)
 drop_all (x ∷ xs) (suc i) l = drop_all xs i (omega arith)
 
@@ -42,7 +42,7 @@ module _ (text : List ℕ) (i v : ℕ) where
       → on_from v (drop i text) ≡ cond d (on_from (10 * v + (get_or text i 0 - 48)) (drop (i + 1) text)) v
   unfolding on_from
   step l d e =
-      ap (on_from v) (drop_cons text i 0 l ∙ ap (λ (j : ℕ). get_or text i 0 ∷ drop j text) (sym (add_one i)))
+      ap (on_from v) (drop-cons text i 0 l ∙ ap (λ (j : ℕ). get_or text i 0 ∷ drop j text) (sym (add-one i)))
       ∙ ap (λ (t : Bool). cond t (on_from (10 * v + (get_or text i 0 - 48)) (drop (i + 1) text)) v) e
 
   pub number_on : i < length text → digit (get_or text i 0) ≡ true
@@ -62,7 +62,7 @@ module _ (text : List ℕ) (i v : ℕ) where
   span_step : i < length text → (d : Bool) → digit (get_or text i 0) ≡ d → span (drop i text) ≡ cond d (suc (span (drop (i + 1) text))) 0
   unfolding span
   span_step l d e =
-      ap span (drop_cons text i 0 l ∙ ap (λ (j : ℕ). get_or text i 0 ∷ drop j text) (sym (add_one i)))
+      ap span (drop-cons text i 0 l ∙ ap (λ (j : ℕ). get_or text i 0 ∷ drop j text) (sym (add-one i)))
       ∙ ap (λ (t : Bool). cond t (suc (span (drop (i + 1) text))) 0) e
 
   pub span_on : i < length text → digit (get_or text i 0) ≡ true → span (drop i text) ≡ suc (span (drop (i + 1) text))
@@ -93,7 +93,7 @@ module _ (text : List ℕ) (p : ℕ) where
       let m = length text - (p + 1) in
       let more : length text - p ≡ suc m = omega arith in
       ap (starts_from text p) more ∙ starts_step m t e
-      ∙ ap (λ (q : ℕ). cond t (p ∷ starts_from text q m) (starts_from text q m)) (sym (add_one p))
+      ∙ ap (λ (q : ℕ). cond t (p ∷ starts_from text q m) (starts_from text q m)) (sym (add-one p))
 
   pub starts_end : length text ≤ p → starts_on text p ≡ []
   unfolding starts_from
@@ -104,7 +104,7 @@ pub digit_from : (b : ℕ) → digit b ≡ true → 48 ≤ b
 digit_from b e = go (ltb 47 b) refl e
   where
     go : (t : Bool) → ltb 47 b ≡ t → t && ltb b 58 ≡ true → 48 ≤ b
-    go true h e = ltb_true 47 b h
+    go true h e = ltb-true 47 b h
     go false h e = absurd (true≢false (sym e))
 
 -- THE PLACE of byte i, which a loop up to p has reached; as many lines, and as many columns, as bytes at most
@@ -137,7 +137,7 @@ passed_on {text} {p} {i} {here} {next} k l m e =
       inside = omega arith;
       line = rw e small.0;
       column = rw e small.1;
-      place = e ∙ ap (λ (h : Place). behind h (get_or text i 0)) k.place ∙ ap (place_of text) (sym (add_one i));
+      place = e ∙ ap (λ (h : Place). behind h (get_or text i 0)) k.place ∙ ap (place_of text) (sym (add-one i));
     }
 
 -- what stands in a list with one element in front
@@ -151,7 +151,7 @@ later_of xs x rest (suc k) d e z = let less : suc k - 1 ≡ k = omega arith in r
 -- WHAT IS WRONG at a place, from what the tests said
 pub wrong_byte : (fault p : ℕ) (text : List ℕ) (b : ℕ) (d s : Bool) → fault ≡ 1 → b ≡ get_or text p 0 → d ≡ digit b → s ≡ space b
     → wrong_at fault text p ≡ not d && not s
-wrong_byte fault p text b d s f e x y = rw (eq_eqb fault 1 f, ← e, ← x, ← y)
+wrong_byte fault p text b d s f e x y = rw (eq-eqb fault 1 f, ← e, ← x, ← y)
 
 pub wrong_number : (fault p : ℕ) (text : List ℕ) (s : Bool) (v : ℕ) → (fault ≡ 1 → ⊥) → s ≡ starts_at text p → v ≡ min (number_at text p) too_large
     → wrong_at fault text p ≡ s && ltb number_limit v
@@ -161,13 +161,13 @@ wrong_number fault p text s v f x y = rw (ne_eqb fault 1 f, ← x, above (number
     above w = go (dec_lt number_limit w)
       where
         go : Dec (number_limit < w) → ltb number_limit w ≡ ltb number_limit (min w too_large)
-        go (yes l) = lt_ltb number_limit w l ∙ sym (lt_ltb number_limit (min w too_large) (omega arith))
-        go (no l) = le_ltb number_limit w (omega arith) ∙ sym (le_ltb number_limit (min w too_large) (omega arith))
+        go (yes l) = lt-ltb number_limit w l ∙ sym (lt-ltb number_limit (min w too_large) (omega arith))
+        go (no l) = le-ltb number_limit w (omega arith) ∙ sym (le-ltb number_limit (min w too_large) (omega arith))
 
 -- NUMBER i, by the place where it starts; none is above the limit in a text without that fault
 pub number_is : (text : List ℕ) (i : ℕ) → get_or (numbers_in text) i 0 ≡ number_at text (get_or (starts_in text) i (length text))
 number_is text i =
-    ap (get_or (numbers_in text) i) (sym (text_ends text (length text) 0 (omega arith))) ∙ get_or_map (number_at text) (starts_in text) i (length text)
+    ap (get_or (numbers_in text) i) (sym (text_ends text (length text) 0 (omega arith))) ∙ get_or-map (number_at text) (starts_in text) i (length text)
 
 pub record Start (text : List ℕ) (p m at : ℕ) : Type 0 where
   pub begins : starts_at text at ≡ true
@@ -196,5 +196,5 @@ numbers_small text fine i = go (starts_hold text 0 (length text) i (length text)
     go (inl s) =
         let p = get_or (starts_in text) i (length text) in
         let low : ltb number_limit (number_at text p) ≡ false = rw s.begins at (fine p (omega (arith, s.within))) in
-        omega (arith, number_is text i, ltb_false number_limit (number_at text p) low)
+        omega (arith, number_is text i, ltb-false number_limit (number_at text p) low)
     go (inr e) = omega (arith, number_is text i, ap (number_at text) e, text_ends text (length text) 0 (omega arith))

@@ -1,16 +1,16 @@
 -- Trivial splits put in among the rows of a list, as the loops do it. Assumes nothing.
 use Prim.Native.Nat.{ℕ, zero, suc, ◌+◌, ◌-◌, ◌^◌, ◌≤◌, ◌<◌}
 use native.Mathlib.Omega.{arith}
-use native.Mathlib.Numerals.{add_one}
+use native.Mathlib.Numerals.{add-one}
 use native.Mathlib.Decide.{dec_lt, ℕ_discrete}
 use mathlib.Core.Path.{◌≡◌, refl, sym, ◌∙◌, ap, ap₂, subst}
 use mathlib.Core.Logic.{◌≢◌}
 use mathlib.Core.Bool.{Bool, true, false, cond}
 use mathlib.Core.List.{List, [], ◌∷◌, ◌++◌, append_assoc}
 use lib.Dec.{ltb, eqb}
-use lib.ListN.{length, drop, get_or, replicate, length_append}
+use lib.ListN.{length, drop, get_or, replicate, length-append}
 use lib.Pow.{pow_mono}
-use borrow.Author.Tests.{lt_ltb, le_ltb, eq_eqb, ne_eqb}
+use borrow.Author.Tests.{lt-ltb, le-ltb, eq-eqb, ne_eqb}
 use Rattle.statement.specs.declared.Splits.{Splits}
 use Rattle.statement.specs.Rows.{Row, row, list_in, rows_of, filled, list_of}
 use Rattle.statement.specs.Growing.{put_in, with_singles, with_trivial}
@@ -34,7 +34,7 @@ module _ (s into : Splits) (from : ℕ) where
 
     pub copying_turn : i < s.rows → Copying s into (pushed t (get_or s.clusters i 0) (get_or s.weights i 0)) from (i + 1)
     copying_turn l =
-        rw (add_one i) (record {
+        rw (add-one i) (record {
           low = omega arith;
           room = omega (arith, inv.room, ap length (rows_at s room i l));
           same = sym (ap (appended t) (rows_at s room i l)) ∙ inv.same;
@@ -49,15 +49,15 @@ module _ (s into : Splits) (from : ℕ) where
 module _ (c w x v : ℕ) (xs : List Row) where
   put_past : x < c → put_in (row c w) (row x v ∷ xs) ≡ row x v ∷ put_in (row c w) xs
   unfolding put_in
-  put_past l = rw (le_ltb c x (omega arith), ne_eqb c x (λ e. omega arith))
+  put_past l = rw (le-ltb c x (omega arith), ne_eqb c x (λ e. omega arith))
 
   put_same : c ≡ x → put_in (row c w) (row x v ∷ xs) ≡ row c w ∷ xs
   unfolding put_in
-  put_same e = rw (le_ltb c x (omega arith), eq_eqb c x e)
+  put_same e = rw (le-ltb c x (omega arith), eq-eqb c x e)
 
   put_before : c < x → put_in (row c w) (row x v ∷ xs) ≡ row c w ∷ (row x v ∷ xs)
   unfolding put_in
-  put_before l = rw (lt_ltb c x l)
+  put_before l = rw (lt-ltb c x l)
 
 put_none : (r : Row) → put_in r [] ≡ r ∷ []
 unfolding put_in
@@ -127,7 +127,7 @@ module _ (old t : Splits) (c from : ℕ) where
           ap (λ (s : Splits). s.rows) p.is,
           appended_rows t p.pre,
           ap length p.same,
-          length_append p.pre (drop at (rows_of old)),
+          length-append p.pre (drop at (rows_of old)),
           ap length (rows_at old room at l),
         )
 
@@ -135,7 +135,7 @@ module _ (old t : Splits) (c from : ℕ) where
     passed_turn h =
         let x = get_or old.clusters at 0 in
         let v = get_or old.weights at 0 in
-        rw (add_one at) (record {
+        rw (add-one at) (record {
           pre = p.pre ++ (row x v ∷ []);
           is = ap (λ (s : Splits). pushed s x v) p.is ∙ sym (appended_append t p.pre (row x v ∷ []));
           same =
@@ -162,7 +162,7 @@ module _ (old t u : Splits) (c w from at to : ℕ) (room : Roomy old) (p : Passe
           )
       go (yes l) (yes q) =
           let e : to ≡ at + 1 = past.same l q in (
-            ap (λ (m : ℕ). row c w ∷ drop m (rows_of old)) (e ∙ add_one at)
+            ap (λ (m : ℕ). row c w ∷ drop m (rows_of old)) (e ∙ add-one at)
                 ∙ sym (ap (put_in (row c w)) (rows_at old room at l) ∙ put_same c w (get_or old.clusters at 0) _ _ (sym q)),
             omega arith,
           )
@@ -195,7 +195,7 @@ put_room old t u c w from at p h =
       ap (λ (s : Splits). s.rows) p.is,
       appended_rows t p.pre,
       ap length (sym (put_behind c w p.pre (drop at (rows_of old)) p.below) ∙ ap (put_in (row c w)) p.same),
-      length_append p.pre (put_in (row c w) (drop at (rows_of old))),
+      length-append p.pre (put_in (row c w) (drop at (rows_of old))),
       put_some (row c w) (drop at (rows_of old)),
     )
   where
@@ -226,10 +226,10 @@ pub trivial_low : (k i : ℕ) → i < k → trivial_at k i ≡ 2 ^ i
 trivial_low k i l = rw (ne_eqb i k (λ e. omega arith))
 
 pub trivial_top : (k i : ℕ) → i ≡ k → trivial_at k i ≡ 2 ^ k - 2
-trivial_top k i e = rw (eq_eqb i k e)
+trivial_top k i e = rw (eq-eqb i k e)
 
 pub first_two : (k : ℕ) → k ≡ 2 → first_of k ≡ 2
-first_two k e = rw (eq_eqb k 2 e)
+first_two k e = rw (eq-eqb k 2 e)
 
 pub first_more : (k : ℕ) → k ≢ 2 → first_of k ≡ 1
 first_more k e = rw (ne_eqb k 2 e)
@@ -296,7 +296,7 @@ trivial_up k i two f l = go (ℕ_discrete k 2) (ℕ_discrete (i + 1) k)
     go (yes e) _ = absurd (omega (arith, first_two k e))
     go (no e) (yes q) = omega (arith, trivial_low k i l, trivial_top k (i + 1) q, big (omega arith) q)
     go (no e) (no q) =
-        omega (arith, trivial_low k i l, trivial_low k (i + 1) (omega arith), ap (λ (m : ℕ). 2 ^ m) (add_one i), pow_mono {i = 0} {j = i} (omega arith))
+        omega (arith, trivial_low k i l, trivial_low k (i + 1) (omega arith), ap (λ (m : ℕ). 2 ^ m) (add-one i), pow_mono {i = 0} {j = i} (omega arith))
 
 -- THE MERGE at the trivial split numbered i
 pub record Merging (most k : ℕ) (old t : Splits) (at i : ℕ) : Type 0 where
@@ -348,7 +348,7 @@ module _ (most k : ℕ) (two : 2 ≤ k) (old : Splits) (room : length (with_triv
             arith,
             enough (suc (i - first_of k)) (omega (arith, m.from)),
             ap length next,
-            length_append m.pre (put_in (row (trivial_at k i) most) (drop at (rows_of old))),
+            length-append m.pre (put_in (row (trivial_at k i) most) (drop at (rows_of old))),
           )
 
       pub merging_room : (b : ℕ) → b ≡ trivial_at k i → t.rows + length (put_in (row b most) (drop at (rows_of old))) ≤ 125
@@ -362,7 +362,7 @@ module _ (most k : ℕ) (two : 2 ≤ k) (old : Splits) (room : length (with_triv
             is =
                 p.is ∙ ap (λ (s : Splits). appended s p.pre) m.is
                 ∙ appended_list 0 m.pre p.pre
-                (omega (arith, size, ap length p.same, length_append p.pre (drop to (rows_of old))));
+                (omega (arith, size, ap length p.same, length-append p.pre (drop to (rows_of old))));
             same = parts ∙ next ∙ ap (filled_to most k (rows_of old)) (let q : suc (i - first_of k) ≡ i + 1 - first_of k = omega (arith, m.from) in q);
             below = λ h.
                 below_more (trivial_at k i + 1) (trivial_at k (i + 1)) (m.pre ++ p.pre) (trivial_up k i two m.from (omega arith))
@@ -382,7 +382,7 @@ module _ (most k : ℕ) (two : 2 ≤ k) (old : Splits) (room : length (with_triv
           ∙ filled_all most k (rows_of old) two
 
       rest_room : t.rows + length (drop at (rows_of old)) ≤ 125
-      rest_room = omega (arith, rows_is, room, ap length whole, length_append m.pre (drop at (rows_of old)))
+      rest_room = omega (arith, rows_is, room, ap length whole, length-append m.pre (drop at (rows_of old)))
 
       -- for k taxa
       rest_is : (u : Splits) → u ≡ appended (list_in k t.rows t.clusters t.weights) (drop at (rows_of old)) → u ≡ list_of k (with_trivial most k (rows_of old))

@@ -9,8 +9,8 @@ use mathlib.Core.Logic.{◌⊎◌, inl, inr}
 use mathlib.Core.Bool.{Bool, true, false, cond, true≢false}
 use mathlib.Core.List.{List}
 use lib.Dec.{eqb}
-use lib.ListN.{length, get_or, drop, get_or_map}
-use borrow.Author.Tests.{ltb_true, eqb_true, eqb_false, eq_eqb}
+use lib.ListN.{length, get_or, drop, get_or-map}
+use borrow.Author.Tests.{ltb-true, eqb-true, eqb-false, eq-eqb}
 use Rattle.statement.specs.Cluster.{bit, In, Out}
 use Rattle.statement.specs.Rows.{Row, row, clusters, weights}
 use Rattle.statement.specs.Tree.{Tree, root, cluster_at, link_of, home_of, tree_of, up, walk, on_walk, rise, climb, path_sum}
@@ -46,11 +46,11 @@ module _ (n : ℕ) (rows : List Row) (clean : Clean n (clusters rows)) where
   row_at v = get_or rows v (row 0 0)
 
   cluster_is : (v : ℕ) → cluster_at rows v ≡ (row_at v).cluster
-  cluster_is v = get_or_map (λ r. r.cluster) rows v (row 0 0)
+  cluster_is v = get_or-map (λ r. r.cluster) rows v (row 0 0)
 
   weight_is : (v : ℕ) → get_or tree.weights v 0 ≡ (row_at v).weight
   unfolding tree_of
-  weight_is v = get_or_map (λ r. r.weight) rows v (row 0 0)
+  weight_is v = get_or-map (λ r. r.weight) rows v (row 0 0)
 
   module _ (i j : ℕ) (li : i < n) (lj : j < n) where
     -- what a vertex adds, by what its cluster holds
@@ -74,16 +74,16 @@ module _ (n : ℕ) (rows : List Row) (clean : Clean n (clusters rows)) where
     root_met : met (length rows) ≡ true
     root_met =
         some_at (λ s. eqb (walk tree s (home_of rows j)) (length rows)) (suc (root tree)) (length rows) (omega (arith, root_is n rows))
-        (eq_eqb _ (length rows) (walks_end n rows clean.up (home_of rows j) (home_smallest n rows clean j lj).to ∙ root_is n rows))
+        (eq-eqb _ (length rows) (walks_end n rows clean.up (home_of rows j) (home_smallest n rows clean j lj).to ∙ root_is n rows))
 
     met_holds : (v : ℕ) → v < length rows → met v ≡ true → In (cluster_at rows v) j
-    met_holds v l e = eqb_true (bit (cluster_at rows v) j) 1 (sym (on_walk_home n rows clean j lj v l) ∙ e)
+    met_holds v l e = eqb-true (bit (cluster_at rows v) j) 1 (sym (on_walk_home n rows clean j lj v l) ∙ e)
 
     unmet : (v : ℕ) → v ≤ length rows → met v ≡ false → (v < length rows) × Out (cluster_at rows v) j
     unmet v l e = at (dec_lt v (length rows))
       where
         at : Dec (v < length rows) → (v < length rows) × Out (cluster_at rows v) j
-        at (yes h) = (h, omega (arith, eqb_false (bit (cluster_at rows v) j) 1 (sym (on_walk_home n rows clean j lj v h) ∙ e)))
+        at (yes h) = (h, omega (arith, eqb-false (bit (cluster_at rows v) j) 1 (sym (on_walk_home n rows clean j lj v h) ∙ e)))
         at (no h) = let q : length rows ≡ v = omega arith in absurd (true≢false (sym root_met ∙ ap met q ∙ e))
 
     -- FROM A VERTEX THAT HOLDS i: above one that holds j too, no row holds i and not j; and none does between a vertex and its link
@@ -149,7 +149,7 @@ module _ (n : ℕ) (rows : List Row) (clean : Clean n (clusters rows)) where
 
         meeting : rise tree (home_of rows i) (home_of rows j) < suc (root tree)
         meeting =
-            ltb_true (rise tree (home_of rows i) (home_of rows j)) (suc (root tree))
+            ltb-true (rise tree (home_of rows i) (home_of rows j)) (suc (root tree))
             (some_at test (suc (root tree)) (length rows) (omega (arith, root_is n rows))
             (ap met (walks_end n rows clean.up (home_of rows i) home.to ∙ root_is n rows) ∙ root_met))
 

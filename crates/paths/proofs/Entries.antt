@@ -1,11 +1,11 @@
 -- THE PATH SUMS OF A LIST, entry by entry. Document 01, "The tree". Assumes nothing.
 use Prim.Native.Nat.{ℕ, ◌+◌, ◌*◌, ◌/◌, ◌%◌, ◌≤◌, ◌<◌}
 use native.Mathlib.Omega.{arith}
-use native.Mathlib.Nat.{div_lt_iff_lt_mul, mod_lt}
+use native.Mathlib.Nat.{div-lt_iff_lt-mul, mod-lt}
 use mathlib.Core.Path.{◌≡◌, sym, ◌∙◌, ap, ap₂, subst}
 use mathlib.Core.List.{List}
 use lib.Arith.{digits_lt, digits_div, digits_mod}
-use lib.ListN.{length, get_or, length_map}
+use lib.ListN.{length, get_or, length-map}
 use lib.Seq.{ext_get_or}
 use Rattle.statement.specs.declared.Splits.{Splits}
 use Rattle.statement.specs.declared.Outcome.TheVariants.{Done}
@@ -24,7 +24,7 @@ use Rattle.paths.proofs.ByRows.{path_by_rows}
 
 -- the two taxa of an entry
 pub taxa_of_law : (n e : ℕ) → 0 < n → e < n * n → (e / n < n) × (e % n < n)
-taxa_of_law n e some l = ((div_lt_iff_lt_mul some).1 l, mod_lt e some)
+taxa_of_law n e some l = ((div-lt_iff_lt-mul some).1 l, mod-lt e some)
 
 module _ (n : ℕ) (rows : List Row) (clean : Clean n (clusters rows)) where
   -- what the definition has at an entry
@@ -33,7 +33,7 @@ module _ (n : ℕ) (rows : List Row) (clean : Clean n (clusters rows)) where
 
   sums_size : length (path_sums n (tree_of n rows)) ≡ n * n
   unfolding path_sums
-  sums_size = length_map (numbers 0 (n * n)) at ∙ numbers_length 0 (n * n)
+  sums_size = length-map (numbers 0 (n * n)) at ∙ numbers_length 0 (n * n)
 
   entry_by_rows : (e : ℕ) → 0 < n → e < n * n → get_or (path_sums n (tree_of n rows)) e 0 ≡ row_sum rows (e / n) (e % n)
   unfolding path_sums

@@ -8,8 +8,8 @@ use mathlib.Core.Bool.{Bool, true, false, cond}
 use mathlib.Core.List.{List, [], ◌∷◌}
 use lib.Dec.{eqb}
 use lib.ListN.{length, get_or, drop}
-use lib.Seq.{drop_cons, drop_length}
-use borrow.Author.Tests.{eqb_true, eqb_false, eq_eqb, ne_eqb}
+use lib.Seq.{drop-cons, drop-length}
+use borrow.Author.Tests.{eqb-true, eqb-false, eq-eqb, ne_eqb}
 use Rattle.statement.specs.Cluster.{bit}
 use Rattle.statement.specs.Rows.{Row, row, weights, Mem}
 use Rattle.paths.specs.RowSum.{sum_over, parting, row_sum}
@@ -34,7 +34,7 @@ sum_none f e (r ∷ rs) = omega (arith, e r, sum_none f e rs)
 pub sum_from : (f : Row → ℕ) (rows : List Row) (v : ℕ) → v < length rows
     → sum_over f (drop v rows) ≡ f (get_or rows v (row 0 0)) + sum_over f (drop (suc v) rows)
 unfolding sum_over
-sum_from f rows v l = ap (sum_over f) (drop_cons rows v (row 0 0) l)
+sum_from f rows v l = ap (sum_over f) (drop-cons rows v (row 0 0) l)
 
 -- k rows that add nothing may be passed over
 pub sum_past : (f : Row → ℕ) (rows : List Row) (k v w : ℕ) → v + k ≡ w → w ≤ length rows
@@ -50,18 +50,18 @@ sum_past f rows (suc k) v w e l none =
 
 pub sum_end : (f : Row → ℕ) (rows : List Row) → sum_over f (drop (length rows) rows) ≡ 0
 unfolding sum_over
-sum_end f rows = ap (sum_over f) (drop_length rows)
+sum_end f rows = ap (sum_over f) (drop-length rows)
 
 -- THE ROWS THAT PART TWO TAXA
 pub same_both_ways : (rows : List Row) (i j : ℕ) → row_sum rows i j ≡ row_sum rows j i
 same_both_ways rows i j = sum_same (parting i j) (parting j i) (λ r. at r (eqb (bit r.cluster i) (bit r.cluster j)) refl) rows
   where
     at : (r : Row) (b : Bool) → eqb (bit r.cluster i) (bit r.cluster j) ≡ b → parting i j r ≡ parting j i r
-    at r true e = rw (e, eq_eqb (bit r.cluster j) (bit r.cluster i) (sym (eqb_true _ _ e)))
-    at r false e = rw (e, ne_eqb (bit r.cluster j) (bit r.cluster i) (λ q. eqb_false _ _ e (sym q)))
+    at r true e = rw (e, eq-eqb (bit r.cluster j) (bit r.cluster i) (sym (eqb-true _ _ e)))
+    at r false e = rw (e, ne_eqb (bit r.cluster j) (bit r.cluster i) (λ q. eqb-false _ _ e (sym q)))
 
 pub none_to_itself : (rows : List Row) (i : ℕ) → row_sum rows i i ≡ 0
-none_to_itself rows i = sum_none (parting i i) (λ r. rw (eq_eqb (bit r.cluster i) (bit r.cluster i) refl)) rows
+none_to_itself rows i = sum_none (parting i i) (λ r. rw (eq-eqb (bit r.cluster i) (bit r.cluster i) refl)) rows
 
 parting_most : (most i j : ℕ) (r : Row) → r.weight ≤ most → parting i j r ≤ most
 parting_most most i j r l = at (eqb (bit r.cluster i) (bit r.cluster j))

@@ -1,5 +1,5 @@
 -- A record is found exactly when it passes each check up to its sum word. Assumes nothing.
-use Rattle.std.proofs.Common.{◌≡◌, ℕ, suc, ◌+◌, ◌-◌, ◌≤◌, Bool, true, false, not, ◌&&◌, ◌||◌, eqb, ltb, ◌≢◌, ◌↔◌, List, [], ◌∷◌, ◌++◌, length, get_or, take, drop, sym, refl, ◌∙◌, arith, length_drop, length_take_le, eq_eqb, ne_eqb}
+use Rattle.std.proofs.Common.{◌≡◌, ℕ, suc, ◌+◌, ◌-◌, ◌≤◌, Bool, true, false, not, ◌&&◌, ◌||◌, eqb, ltb, ◌≢◌, ◌↔◌, List, [], ◌∷◌, ◌++◌, length, get_or, take, drop, sym, refl, ◌∙◌, arith, length-drop, length-take-le, eq-eqb, ne_eqb}
 use mathlib.Core.Logic.Iff
 use Rattle.statement.specs.declared.Outcome.TheVariants.{Done, Refused}
 use Rattle.statement.specs.Bytes.{word_sum}
@@ -90,16 +90,16 @@ module _ (bytes : List ℕ) where
   module _ (found : number_of (find_record bytes) ≡ 0) where
     pub body_found : (len : ℕ) → len ≡ length_in bytes → take (8 + len - 8) (drop 8 bytes) ≡ body_in bytes
     unfolding body_in find_record
-    body_found len e = let d : 8 + len - 8 ≡ length_in bytes = omega arith in rw (d, eq_eqb _ 0 found)
+    body_found len e = let d : 8 + len - 8 ≡ length_in bytes = omega arith in rw (d, eq-eqb _ 0 found)
 
     pub start_found : (place : ℕ) → 8 + place ≡ place + body_start bytes
-    start_found place = rw (eq_eqb _ 0 found) (omega arith)
+    start_found place = rw (eq-eqb _ 0 found) (omega arith)
 
     pub length_found : (len : ℕ) → len ≡ length_in bytes → length (take (8 + len - 8) (drop 8 bytes)) ≡ body_length bytes
     length_found len e =
         let d : 8 + len - 8 ≡ length_in bytes = omega arith in
         let whole = ((found_exactly bytes).0 (found_by_number bytes found)).whole in
-        rw (d, eq_eqb _ 0 found) (length_take_le (length_in bytes) (drop 8 bytes) (omega (arith, length_drop 8 bytes, whole)))
+        rw (d, eq-eqb _ 0 found) (length-take-le (length_in bytes) (drop 8 bytes) (omega (arith, length-drop 8 bytes, whole)))
 
   module _ (refused : number_of (find_record bytes) ≢ 0) where
     pub body_refused : [] ≡ body_in bytes

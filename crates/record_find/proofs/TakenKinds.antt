@@ -1,5 +1,5 @@
 -- Which of the kinds that a call takes a number is. Assumes nothing.
-use Rattle.std.proofs.Common.{◌≡◌, ℕ, Bool, true, false, ◌≢◌, List, refl, eq_eqb, ne_eqb}
+use Rattle.std.proofs.Common.{◌≡◌, ℕ, Bool, true, false, ◌≢◌, List, refl, eq-eqb, ne_eqb}
 use Rattle.statement.specs.Record.{Kind, is_kind}
 use Rattle.record_find.specs.Taken.{if_taken}
 
@@ -15,5 +15,5 @@ module _ (taken : Bool) (k : Kind) (ks : List Kind) (number : ℕ) where
   taken_this h none = go taken
     where
       go : (b : Bool) → is_kind (if_taken b k ks) number ≡ b
-      go true = rw (eq_eqb number k.number h)
+      go true = rw (eq-eqb number k.number h)
       go false = none

@@ -1,5 +1,5 @@
 -- The 16-bit words of a list from a place on. Assumes nothing.
-use Rattle.std.proofs.Common.{◌≡◌, ℕ, suc, ◌+◌, ◌*◌, ◌<◌, ◌≤◌, List, [], ◌∷◌, length, get_or, drop, refl, add_one, arith, length_drop, drop_cons}
+use Rattle.std.proofs.Common.{◌≡◌, ℕ, suc, ◌+◌, ◌*◌, ◌<◌, ◌≤◌, List, [], ◌∷◌, length, get_or, drop, refl, add-one, arith, length-drop, drop-cons}
 use Rattle.statement.specs.Bytes.{word_total}
 
 pub total_step : (bytes : List ℕ) (i : ℕ) → i + 1 < length bytes
@@ -9,8 +9,8 @@ total_step bytes i h =
     let here : i < length bytes = omega arith in
     let next : suc i < length bytes = omega arith in
     let two : i + 2 ≡ suc (suc i) = omega arith in
-    let one : i + 1 ≡ suc i = add_one i in
-    rw (two, one, drop_cons bytes i 0, drop_cons bytes (suc i) 0)
+    let one : i + 1 ≡ suc i = add-one i in
+    rw (two, one, drop-cons bytes i 0, drop-cons bytes (suc i) 0)
 
 short_total : (bytes : List ℕ) → length bytes ≤ 1 → word_total bytes ≡ 0
 unfolding word_total
@@ -19,4 +19,4 @@ short_total (a ∷ []) h = refl
 short_total (a ∷ b ∷ rest) h = omega arith
 
 pub total_end : (bytes : List ℕ) (i : ℕ) → length bytes ≤ i + 1 → word_total (drop i bytes) ≡ 0
-total_end bytes i h = short_total (drop i bytes) (simp length_drop (omega arith))
+total_end bytes i h = short_total (drop i bytes) (simp length-drop (omega arith))

@@ -1,5 +1,5 @@
 -- The writer's reply and what it leaves in the lent slice, by each way out. Assumes nothing.
-use Rattle.std.proofs.Common.{◌≡◌, ℕ, suc, ◌≤◌, Bool, true, false, cond, not, eqb, ◌≢◌, List, [], ◌∷◌, length, sym, refl, ap, ◌∙◌, arith, eq_eqb, ne_eqb}
+use Rattle.std.proofs.Common.{◌≡◌, ℕ, suc, ◌≤◌, Bool, true, false, cond, not, eqb, ◌≢◌, List, [], ◌∷◌, length, sym, refl, ap, ◌∙◌, arith, eq-eqb, ne_eqb}
 use Rattle.statement.specs.declared.Splits.{Splits}
 use Rattle.statement.specs.declared.Reading.{Reading}
 use Rattle.statement.specs.declared.Outcome.{Outcome}
@@ -66,7 +66,7 @@ module _ (kind n : ℕ) (body out : List ℕ) where
 
       pub wrote : (now : List ℕ) → length out ≡ record_length (length body) → now ≡ record_of kind n body
           → (Done ≡ write_record kind n body out) × (now ≡ record_written kind n body out)
-      wrote now h e = shown Done now (room ∙ first_passed _ [] ((good_passed 7 _).1 (eq_eqb (length out) (record_length (length body)) h)) ∙ none_left) e
+      wrote now h e = shown Done now (room ∙ first_passed _ [] ((good_passed 7 _).1 (eq-eqb (length out) (record_length (length body)) h)) ∙ none_left) e
 
 -- what was said of a kind's input, by the kind's number
 pub said_of : (kind number n : ℕ) (body : List ℕ) (said : Outcome) → kind ≡ number → is_kind kinds number ≡ true

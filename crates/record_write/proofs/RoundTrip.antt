@@ -1,9 +1,9 @@
 -- Finding what was written gives that body, whatever stands behind it. Document 01, "Records in a file". Assumes nothing.
-use Rattle.std.proofs.Common.{◌≡◌, ℕ, ◌+◌, ◌-◌, ◌*◌, ◌/◌, ◌%◌, ◌^◌, ◌<◌, ◌≤◌, Bool, true, false, cond, eqb, List, [], ◌∷◌, ◌++◌, length, get_or, take, drop, sym, refl, ap, ◌∙◌, append_assoc, append_nil, mul_le_mul, arith, length_append, take_at, eqb_true}
-use native.Mathlib.Nat.{div_div_eq_div_mul}
+use Rattle.std.proofs.Common.{◌≡◌, ℕ, ◌+◌, ◌-◌, ◌*◌, ◌/◌, ◌%◌, ◌^◌, ◌<◌, ◌≤◌, Bool, true, false, cond, eqb, List, [], ◌∷◌, ◌++◌, length, get_or, take, drop, sym, refl, ap, ◌∙◌, append_assoc, append-nil, mul-le-mul, arith, length-append, take_at, eqb-true}
+use native.Mathlib.Nat.{div-div-eq-div-mul}
 use mathlib.Core.Bool.{false≢true}
 use lib.Seq.{get_or_at}
-use borrow.Author.Tests.{eqb_false}
+use borrow.Author.Tests.{eqb-false}
 use Rattle.statement.specs.declared.Outcome.TheVariants.{Done}
 use Rattle.statement.specs.Table.{choose}
 use Rattle.statement.specs.Bytes.{from_four, word_total, word_sum, tree_length}
@@ -20,7 +20,7 @@ use Rattle.record_write.specs.Parts.{header, pad}
 -- NO BODY IS LONG: its length stands in four bytes
 pub tree_short : (n len : ℕ) → n ≤ 64 → tree_fits n len ≡ true → len < 2 ^ 32
 tree_short n len few e =
-    let (m, l, at) = some_of (λ m. eqb len (tree_length n m)) (2 * n - 2) e in omega (arith, eqb_true len (tree_length n m) at)
+    let (m, l, at) = some_of (λ m. eqb len (tree_length n m)) (2 * n - 2) e in omega (arith, eqb-true len (tree_length n m) at)
 
 pub table_short : (n : ℕ) → n ≤ 64 → choose n 4 < 2 ^ 32
 table_short n few = omega (arith, absorb n 3, choose_fits n 3 few (omega arith))
@@ -29,8 +29,8 @@ pub body_short : (kind n len : ℕ) → n ≤ 64 → fits_kind kinds kind n len 
 body_short kind n len few e = go (eqb kind 1) (eqb kind 2) (eqb kind 3) e
   where
     go : (a b c : Bool) → cond a (eqb len (4 * (n * n))) (cond b (eqb len (choose n 4)) (cond c (tree_fits n len) false)) ≡ true → len < 2 ^ 32
-    go true b c p = omega (arith, eqb_true len (4 * (n * n)) p, mul_le_mul few few)
-    go false true c p = omega (arith, eqb_true len (choose n 4) p, table_short n few)
+    go true b c p = omega (arith, eqb-true len (4 * (n * n)) p, mul-le-mul few few)
+    go false true c p = omega (arith, eqb-true len (choose n 4) p, table_short n few)
     go false false true p = tree_short n len few p
     go false false false p = absurd (false≢true p)
 
@@ -42,7 +42,7 @@ from_four_law : (l : ℕ) → l < 2 ^ 32 → from_four (l % 256) (l / 256 % 256)
 from_four_law l h =
     let top : l / 16777216 % 256 ≡ l / 16777216 = omega arith in
     rw top (digits l (l / 256) (l / 65536) (l / 16777216) (l % 256) (l / 256 % 256) (l / 65536 % 256) (omega arith)
-    (omega (arith, div_div_eq_div_mul l 256 256)) (omega (arith, div_div_eq_div_mul l 65536 256)))
+    (omega (arith, div-div-eq-div-mul l 256 256)) (omega (arith, div-div-eq-div-mul l 65536 256)))
 
 -- THE SUM: the words of a list of even length, and of one behind it
 total_append : (a b : List ℕ) → length a % 2 ≡ 0 → word_total (a ++ b) ≡ word_total a + word_total b
@@ -59,8 +59,8 @@ pad_length : (len : ℕ) → length (pad len) ≡ len % 2
 pad_length len = go (eqb (len % 2) 1) refl
   where
     go : (b : Bool) → eqb (len % 2) 1 ≡ b → length {A = ℕ} (cond b (0 ∷ []) []) ≡ len % 2
-    go true p = omega (arith, eqb_true (len % 2) 1 p)
-    go false p = omega (arith, eqb_false (len % 2) 1 p)
+    go true p = omega (arith, eqb-true (len % 2) 1 p)
+    go false p = omega (arith, eqb-false (len % 2) 1 p)
 
 -- A RECORD that is written, with any bytes behind it
 module _ (kind n : ℕ) (body : List ℕ) where
@@ -68,11 +68,11 @@ module _ (kind n : ℕ) (body : List ℕ) where
   front = header kind n (length body) ++ body ++ pad (length body)
 
   front_length : length front ≡ 8 + length body + length body % 2
-  front_length = simp length_append (omega (arith, pad_length (length body)))
+  front_length = simp length-append (omega (arith, pad_length (length body)))
 
   record_length_law : length (record_of kind n body) ≡ record_length (length body)
   unfolding record_of summed
-  record_length_law = simp length_append (omega (arith, pad_length (length body)))
+  record_length_law = simp length-append (omega (arith, pad_length (length body)))
 
   record_zero : word_sum (record_of kind n body) ≡ 0
   unfolding record_of
@@ -101,7 +101,7 @@ module _ (kind n : ℕ) (body : List ℕ) where
     unfolding behind
     at_pad e =
         ap (λ (l : List ℕ). get_or l (8 + length body) 0) (parts ∙ sym (append_assoc (header kind n (length body)) body behind))
-        ∙ simp e (get_or_at (header kind n (length body) ++ body) 0 _ 0 (8 + length body) (simp length_append (omega arith)))
+        ∙ simp e (get_or_at (header kind n (length body) ++ body) 0 _ 0 (8 + length body) (simp length-append (omega arith)))
 
     pad_is : pad_in (record_of kind n body ++ rest) ≡ 0
     pad_is = rw length_is (go (eqb (length body % 2) 1) refl)
@@ -111,7 +111,7 @@ module _ (kind n : ℕ) (body : List ℕ) where
         go false e = refl
 
     long : record_length (length body) ≤ length (record_of kind n body ++ rest)
-    long = simp length_append (omega (arith, record_length_law))
+    long = simp length-append (omega (arith, record_length_law))
 
     sum_is : word_sum (take (record_length (length body)) (record_of kind n body ++ rest)) ≡ 0
     sum_is = ap word_sum (take_at (record_of kind n body) rest (record_length (length body)) record_length_law) ∙ record_zero
@@ -152,5 +152,5 @@ written_back kind n body out e =
     let (two, few) = (taxa_passed n).0 taxa in
     let k = (good_passed 17 _).0 known in
     let f = (good_passed 2 _).0 fits in
-    let is : record_written kind n body out ≡ record_of kind n body ++ [] = rw e (sym (append_nil (record_of kind n body))) in
+    let is : record_written kind n body out ≡ record_of kind n body ++ [] = rw e (sym (append-nil (record_of kind n body))) in
     (ap find_record is ∙ round_trip_found kind n body [] k two few f, ap body_in is ∙ round_trip_body kind n body [] k two few f)

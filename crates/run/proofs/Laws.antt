@@ -2,7 +2,7 @@
 use Prim.Native.Nat.{ℕ, ◌-◌, ◌≤◌}
 use native.Mathlib.Omega.{arith}
 use native.Mathlib.Decide.{ℕ_discrete}
-use native.Mathlib.Nat.{mul_le_mul, le_refl}
+use native.Mathlib.Nat.{mul-le-mul, le_refl}
 use mathlib.Core.Path.{◌≡◌, refl, sym, ◌∙◌, ap, subst}
 use mathlib.Core.Logic.{◌≢◌}
 use mathlib.Core.Bool.{true, false, true≢false}
@@ -92,7 +92,7 @@ module _ (kind n : ℕ) (entries bytes : List ℕ) (said : Outcome) (checked : C
     covered =
         let (r, e, sound) = rule kind n entries bytes (checked.accepted done) in
         let few : n ≤ 64 = (checked.accepted done).few in
-        omega (arith, run_bound r (manner_by kind n entries bytes) sound n two (omega arith), mul_le_mul few (le_refl n))
+        omega (arith, run_bound r (manner_by kind n entries bytes) sound n two (omega arith), mul-le-mul few (le_refl n))
 
     pub run_whole : (one : Splits) → one ≡ list_of 1 []
         → grown (manner_by kind n entries bytes) (n - one.taxa) 7751 0 one ≡ run_by kind n entries bytes said

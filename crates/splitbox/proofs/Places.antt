@@ -1,13 +1,13 @@
 -- Number and place of any refusal of any call share a reply: the number is below 254, the place below 2 ^ 48. Assumes nothing.
 use Prim.Native.Nat.{ℕ, zero, suc, ◌+◌, ◌*◌, ◌^◌, ◌≤◌, ◌<◌}
 use native.Mathlib.Omega.{arith}
-use native.Mathlib.Nat.{mul_le_mul, le_trans}
+use native.Mathlib.Nat.{mul-le-mul, le_trans}
 use mathlib.Core.Path.{◌≡◌, refl}
 use mathlib.Core.Logic.{inl, inr}
 use mathlib.Core.Bool.{Bool, true, false, cond, ◌&&◌}
 use mathlib.Core.List.{List, [], ◌∷◌, ◌++◌}
 use lib.Dec.{ltb, eqb}
-use lib.ListN.{length, take, drop, get_or, length_drop}
+use lib.ListN.{length, take, drop, get_or, length-drop}
 use Rattle.statement.specs.declared.Splits.{Splits}
 use Rattle.statement.specs.declared.Growth.{Growth}
 use Rattle.statement.specs.declared.Outcome.{Outcome}
@@ -68,7 +68,7 @@ fitting fits p = (not_is ((λ e. e), (λ e. e))).0 (p 0 (omega arith))
 -- THE ORDERS. A matrix's own checks look at each entry, a table's at each byte
 few_entries : (n : ℕ) (entries : List ℕ) → n ≤ 64 → Few (entry_checks n entries)
 few_entries n entries l =
-    let small : n * n ≤ 2 ^ 48 = le_trans (mul_le_mul l l) (omega arith) in (line refl small, (λ p. (line refl small, (λ q. (line refl small, (λ r. tt))))))
+    let small : n * n ≤ 2 ^ 48 = le_trans (mul-le-mul l l) (omega arith) in (line refl small, (λ p. (line refl small, (λ q. (line refl small, (λ r. tt))))))
 
 few_matrix : (n : ℕ) (entries : List ℕ) → Few (matrix_checks n entries)
 few_matrix n entries = (line refl (omega arith), (λ p. (line refl (omega arith), (λ q. few_entries n entries ((taxa_passed n).0 p).1))))
@@ -85,7 +85,7 @@ take_short (suc m) (x ∷ xs) = omega (arith, take_short m xs)
 
 few_edges : (n : ℕ) (body : List ℕ) → length body < 2 ^ 32 → root (tree_in n body) ≤ 2 ^ 48
 unfolding tree_in
-few_edges n body l = omega (arith, take_short (get_or body 0 0) (drop 1 body), length_drop 1 body)
+few_edges n body l = omega (arith, take_short (get_or body 0 0) (drop 1 body), length-drop 1 body)
 
 few_vertices : (n : ℕ) (body : List ℕ) → length body < 2 ^ 32 → Few (vertex_checks n body)
 few_vertices n body l =

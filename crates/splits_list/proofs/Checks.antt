@@ -2,7 +2,7 @@
 use Prim.Native.Nat.{ℕ, ◌/◌, ◌^◌, ◌≤◌, ◌<◌}
 use native.Mathlib.Omega.{arith}
 use native.Mathlib.Decide.{dec_lt}
-use native.Mathlib.Nat.{div_eq_of_lt, div_lt_iff_lt_mul}
+use native.Mathlib.Nat.{div-eq_of_lt, div-lt_iff_lt-mul}
 use mathlib.Core.Path.{◌≡◌, refl, sym, ◌∙◌, ap}
 use mathlib.Core.Bool.{Bool, true, false, not, ◌||◌}
 use mathlib.Core.List.{List}
@@ -12,7 +12,7 @@ use lib.Dec.{ltb, eqb}
 use lib.ListN.{get_or}
 use lib.Pow.{pow_pos}
 use borrow.Author.Count.{below_more}
-use borrow.Author.Tests.{lt_ltb, le_ltb, eq_eqb, ne_eqb}
+use borrow.Author.Tests.{lt-ltb, le-ltb, eq-eqb, ne_eqb}
 use Rattle.statement.specs.declared.Splits.{Splits}
 use Rattle.statement.specs.Cluster.{Split}
 use Rattle.statement.specs.Lowest.{somewhere}
@@ -26,10 +26,10 @@ pub shifted : (k c : ℕ) → eqb (c / 2 ^ k) 0 ≡ ltb c (2 ^ k)
 shifted k c = go (dec_lt c (2 ^ k))
   where
     go : Dec (c < 2 ^ k) → eqb (c / 2 ^ k) 0 ≡ ltb c (2 ^ k)
-    go (yes l) = eq_eqb (c / 2 ^ k) 0 (div_eq_of_lt l) ∙ sym (lt_ltb c (2 ^ k) l)
+    go (yes l) = eq-eqb (c / 2 ^ k) 0 (div-eq_of_lt l) ∙ sym (lt-ltb c (2 ^ k) l)
     go (no l) =
-        let more : c / 2 ^ k ≡ 0 → ⊥ = λ e. omega (arith, (div_lt_iff_lt_mul {k = 2 ^ k} {x = c} {y = 1} (pow_pos k)).0 (omega arith)) in
-        ne_eqb (c / 2 ^ k) 0 more ∙ sym (le_ltb c (2 ^ k) (omega arith))
+        let more : c / 2 ^ k ≡ 0 → ⊥ = λ e. omega (arith, (div-lt_iff_lt-mul {k = 2 ^ k} {x = c} {y = 1} (pow_pos k)).0 (omega arith)) in
+        ne_eqb (c / 2 ^ k) 0 more ∙ sym (le-ltb c (2 ^ k) (omega arith))
 
 -- two splits conflict exactly where their common group is neither empty nor one of the two clusters
 module _ (k a b : ℕ) (pk : 0 < k) (sa : Split k a) (sb : Split k b) where

@@ -2,9 +2,9 @@
 use Prim.Native.Nat.{ℕ, suc, ◌+◌, ◌-◌, ◌≤◌, ◌<◌}
 use native.Mathlib.Omega.{arith}
 use mathlib.Core.Path.{◌≡◌, refl, sym, ◌∙◌, ap, ap₂}
-use mathlib.Core.List.{List, [], ◌∷◌, ◌++◌, map, append_assoc, append_nil, map_append}
-use lib.ListN.{length, get_or, drop, set, replicate, length_append, length_map, drop_of_length_le, get_or_map}
-use lib.Seq.{set_at, drop_cons}
+use mathlib.Core.List.{List, [], ◌∷◌, ◌++◌, map, append_assoc, append-nil, map-append}
+use lib.ListN.{length, get_or, drop, set, replicate, length-append, length-map, drop_of_length-le, get_or-map}
+use lib.Seq.{set_at, drop-cons}
 use Rattle.statement.specs.declared.Splits.{Splits}
 use Rattle.statement.specs.Rows.{Row, row, clusters, weights, rows_of, filled, list_of}
 pub use Rattle.statement.proofs.WellFormed.{Roomy, rows_length}
@@ -17,17 +17,17 @@ unfolding filled
 filled_set f rows r h =
     let xs = map f rows in
     let spare = 125 - length (xs ++ (f r ∷ [])) in
-    let more : 125 - length xs ≡ suc spare = omega (arith, length_append xs (f r ∷ []), length_map rows f) in
+    let more : 125 - length xs ≡ suc spare = omega (arith, length-append xs (f r ∷ []), length-map rows f) in
     ap (λ (m : ℕ). set (xs ++ replicate m 0) (length rows) (f r)) more
-    ∙ set_at xs 0 (replicate spare 0) (f r) (length rows) (length_map rows f)
+    ∙ set_at xs 0 (replicate spare 0) (f r) (length rows) (length-map rows f)
     ∙ sym (append_assoc xs (f r ∷ []) (replicate spare 0))
-    ∙ ap (λ (ys : List ℕ). ys ++ replicate (125 - length ys) 0) (sym (map_append f rows (r ∷ [])))
+    ∙ ap (λ (ys : List ℕ). ys ++ replicate (125 - length ys) 0) (sym (map-append f rows (r ∷ [])))
 
 pub pushed_list_of : (k : ℕ) (rows : List Row) (c w : ℕ) → length rows < 125 → pushed (list_of k rows) c w ≡ list_of k (rows ++ (row c w ∷ []))
 unfolding list_of
 pushed_list_of k rows c w h = λ i. record {
   taxa = k;
-  rows = sym (length_append rows (row c w ∷ [])) i;
+  rows = sym (length-append rows (row c w ∷ [])) i;
   clusters = filled_set (λ r. r.cluster) rows (row c w) h i;
   weights = filled_set (λ r. r.weight) rows (row c w) h i;
 }
@@ -42,13 +42,13 @@ module _ (s : Splits) (room : Roomy s) (i : ℕ) (l : i < s.rows) where
 
   pub rows_at : drop i (rows_of s) ≡ row (get_or s.clusters i 0) (get_or s.weights i 0) ∷ drop (suc i) (rows_of s)
   rows_at =
-      drop_cons (rows_of s) i (row 0 0) (omega (arith, rows_length s room))
+      drop-cons (rows_of s) i (row 0 0) (omega (arith, rows_length s room))
       ∙ ap₂ (λ (c w : ℕ). row c w ∷ drop (suc i) (rows_of s))
-      (sym (get_or_map (λ r. r.cluster) (rows_of s) i (row 0 0)) ∙ cluster_at_law)
-      (sym (get_or_map (λ r. r.weight) (rows_of s) i (row 0 0)) ∙ weight_at_law)
+      (sym (get_or-map (λ r. r.cluster) (rows_of s) i (row 0 0)) ∙ cluster_at_law)
+      (sym (get_or-map (λ r. r.weight) (rows_of s) i (row 0 0)) ∙ weight_at_law)
 
 pub rows_end : (s : Splits) → Roomy s → drop s.rows (rows_of s) ≡ []
-rows_end s room = drop_of_length_le (rows_of s) {i = s.rows} (omega (arith, rows_length s room))
+rows_end s room = drop_of_length-le (rows_of s) {i = s.rows} (omega (arith, rows_length s room))
 
 -- rows pushed after others
 pub appended_append : (s : Splits) (xs ys : List Row) → appended s (xs ++ ys) ≡ appended (appended s xs) ys
@@ -60,7 +60,7 @@ appended_rows s [] = omega arith
 appended_rows s (x ∷ xs) = omega (arith, appended_rows (pushed s x.cluster x.weight) xs)
 
 pub appended_list : (k : ℕ) (xs ys : List Row) → length xs + length ys ≤ 125 → appended (list_of k xs) ys ≡ list_of k (xs ++ ys)
-appended_list k xs [] h = ap (list_of k) (sym (append_nil xs))
+appended_list k xs [] h = ap (list_of k) (sym (append-nil xs))
 appended_list k xs (y ∷ ys) h =
     ap (λ (s : Splits). appended s ys) (pushed_list_of k xs y.cluster y.weight (omega arith))
-    ∙ appended_list k (xs ++ (y ∷ [])) ys (omega (arith, length_append xs (y ∷ []))) ∙ ap (list_of k) (append_assoc xs (y ∷ []) ys)
+    ∙ appended_list k (xs ++ (y ∷ [])) ys (omega (arith, length-append xs (y ∷ []))) ∙ ap (list_of k) (append_assoc xs (y ∷ []) ys)

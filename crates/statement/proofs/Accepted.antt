@@ -2,7 +2,7 @@
 use Prim.Native.Nat.{ℕ, ◌+◌, ◌*◌, ◌/◌, ◌%◌, ◌≤◌, ◌<◌}
 use native.Mathlib.Omega.{arith}
 use native.Mathlib.Decide.{dec_lt}
-use native.Mathlib.Nat.{mod_lt, div_add_mod', div_lt_iff_lt_mul}
+use native.Mathlib.Nat.{mod-lt, div-add-mod', div-lt_iff_lt-mul}
 use mathlib.Core.Path.{◌≡◌, sym, ◌∙◌, ap, ap₂}
 use mathlib.Core.Logic.Iff
 use mathlib.Core.Logic.{◌↔◌, ◌≢◌}
@@ -11,7 +11,7 @@ use mathlib.Core.List.{List, ◌∷◌}
 use lib.Arith.{digits_lt, digits_div, digits_mod}
 use lib.Dec.{ltb, eqb}
 use lib.ListN.{length, get_or}
-use borrow.Author.Tests.{ltb_false, lt_ltb, le_ltb, eqb_true, eq_eqb, ne_eqb}
+use borrow.Author.Tests.{ltb-false, lt-ltb, le-ltb, eqb-true, eq-eqb, ne_eqb}
 use Rattle.statement.specs.declared.Outcome.TheVariants.{Done, Refused}
 use Rattle.statement.specs.Matrix.{distance, distance_limit, AcceptedMatrix}
 use Rattle.statement.specs.Table.{choose, AcceptedTable}
@@ -32,10 +32,10 @@ length_passed a b = Iff.trans (single_passed 2 (not (eqb a b))) (not_is (same_is
 -- THE FIRST CHECKS of an input with its n: of n, and of the input's length
 module _ (n : ℕ) (cs : List Check) where
   pub too_few : n < 2 → outcome_of (taxa_off n ∷ cs) ≡ Refused 1 0
-  too_few h = refused_single 1 (ltb n 2 || ltb 64 n) cs (rw (lt_ltb n 2 h))
+  too_few h = refused_single 1 (ltb n 2 || ltb 64 n) cs (rw (lt-ltb n 2 h))
 
   pub too_many : 64 < n → outcome_of (taxa_off n ∷ cs) ≡ Refused 1 0
-  too_many h = refused_single 1 (ltb n 2 || ltb 64 n) cs (rw (le_ltb n 2 (omega arith), lt_ltb 64 n h))
+  too_many h = refused_single 1 (ltb n 2 || ltb 64 n) cs (rw (le-ltb n 2 (omega arith), lt-ltb 64 n h))
 
   module _ (low : 2 ≤ n) (high : n ≤ 64) (len wanted : ℕ) where
     past_taxa : outcome_of (taxa_off n ∷ length_off (eqb len wanted) ∷ cs) ≡ outcome_of (length_off (eqb len wanted) ∷ cs)
@@ -53,10 +53,10 @@ module _ (n : ℕ) (pn : 0 < n) (entries : List ℕ) where
   entry_within i j li lj = digits_lt li lj
 
   entry_is : (e : ℕ) → get_or entries e 0 ≡ distance n entries (e / n) (e % n)
-  entry_is e = ap (λ (m : ℕ). get_or entries m 0) (sym (div_add_mod' e n))
+  entry_is e = ap (λ (m : ℕ). get_or entries m 0) (sym (div-add-mod' e n))
 
   row_below : (e : ℕ) → e < n * n → e / n < n
-  row_below e l = (div_lt_iff_lt_mul pn).1 l
+  row_below e l = (div-lt_iff_lt-mul pn).1 l
 
   diagonal_is : (e : ℕ) → (eqb (e / n) (e % n) && not (eqb (get_or entries e 0) 0) ≡ false) ↔ (eqb (e / n) (e % n) ≡ true → get_or entries e 0 ≡ 0)
   diagonal_is e = unless_is (eqb (e / n) (e % n)) (not_is (same_is (get_or entries e 0) 0))
@@ -65,15 +65,15 @@ module _ (n : ℕ) (pn : 0 < n) (entries : List ℕ) where
   diagonal_passed = (
     (λ p i l.
         let e = i * n + i in
-        (diagonal_is e).0 (p e (entry_within i i l l)) (eq_eqb (e / n) (e % n) (digits_div i l ∙ sym (digits_mod i l)))),
+        (diagonal_is e).0 (p e (entry_within i i l l)) (eq-eqb (e / n) (e % n) (digits_div i l ∙ sym (digits_mod i l)))),
     (λ h e l. (diagonal_is e).1 (λ same.
-        entry_is e ∙ ap (λ (i : ℕ). distance n entries i (e % n)) (eqb_true (e / n) (e % n) same) ∙ h (e % n) (mod_lt e pn))),
+        entry_is e ∙ ap (λ (i : ℕ). distance n entries i (e % n)) (eqb-true (e / n) (e % n) same) ∙ h (e % n) (mod-lt e pn))),
   )
 
   distance_passed : Passed (distance_off n entries) ↔ ((i j : ℕ) → i < n → j < n → distance n entries i j ≤ distance_limit)
   distance_passed = (
-    (λ p i j li lj. ltb_false distance_limit (distance n entries i j) (p (i * n + j) (entry_within i j li lj))),
-    (λ h e l. le_ltb distance_limit (get_or entries e 0) (omega (arith, entry_is e, h (e / n) (e % n) (row_below e l) (mod_lt e pn)))),
+    (λ p i j li lj. ltb-false distance_limit (distance n entries i j) (p (i * n + j) (entry_within i j li lj))),
+    (λ h e l. le-ltb distance_limit (get_or entries e 0) (omega (arith, entry_is e, h (e / n) (e % n) (row_below e l) (mod-lt e pn)))),
   )
 
   pair_is : (e : ℕ) → (ltb (e / n) (e % n) && not (eqb (get_or entries e 0) (distance n entries (e % n) (e / n))) ≡ false)
@@ -83,13 +83,13 @@ module _ (n : ℕ) (pn : 0 < n) (entries : List ℕ) where
   pair_passed : Passed (pair_off n entries) ↔ ((i j : ℕ) → i < n → j < n → distance n entries i j ≡ distance n entries j i)
   pair_passed = (
     (λ p i j li lj. there p i j li lj (dec_lt i j) (dec_lt j i)),
-    (λ h e l. (pair_is e).1 (λ up. entry_is e ∙ h (e / n) (e % n) (row_below e l) (mod_lt e pn))),
+    (λ h e l. (pair_is e).1 (λ up. entry_is e ∙ h (e / n) (e % n) (row_below e l) (mod-lt e pn))),
   )
     where
       upper : Passed (pair_off n entries) → (i j : ℕ) → i < j → j < n → distance n entries i j ≡ distance n entries j i
       upper p i j l lj =
           let e = i * n + j in
-          let up : ltb (e / n) (e % n) ≡ true = rw (digits_div i lj, digits_mod i lj) (lt_ltb i j l) in
+          let up : ltb (e / n) (e % n) ≡ true = rw (digits_div i lj, digits_mod i lj) (lt-ltb i j l) in
           (pair_is e).0 (p e (entry_within i j (omega arith) lj)) up ∙ ap₂ (λ (a b : ℕ). distance n entries a b) (digits_mod i lj) (digits_div i lj)
 
       there : Passed (pair_off n entries) → (i j : ℕ) → i < n → j < n → Dec (i < j) → Dec (j < i) → distance n entries i j ≡ distance n entries j i
@@ -130,10 +130,10 @@ table_accepted n bytes = ((λ e. there ((accepted_exactly (table_checks n bytes)
     there : AllPassed (table_checks n bytes) → AcceptedTable n bytes
     there (p1, (p2, (p6, u))) =
         let t = (taxa_passed n).0 p1 in
-        record { two = t.0; few = t.1; size = (length_passed (length bytes) (choose n 4)).0 p2; limit = λ i l. ltb_false 3 (get_or bytes i 0) (p6 i l) }
+        record { two = t.0; few = t.1; size = (length_passed (length bytes) (choose n 4)).0 p2; limit = λ i l. ltb-false 3 (get_or bytes i 0) (p6 i l) }
 
     back : AcceptedTable n bytes → AllPassed (table_checks n bytes)
     back a = (
       (taxa_passed n).1 (a.two, a.few),
-      ((length_passed (length bytes) (choose n 4)).1 a.size, ((λ i l. le_ltb 3 (get_or bytes i 0) (a.limit i l)), tt)),
+      ((length_passed (length bytes) (choose n 4)).1 a.size, ((λ i l. le-ltb 3 (get_or bytes i 0) (a.limit i l)), tt)),
     )

@@ -1,19 +1,19 @@
 -- Bits of a number. Assumes nothing.
 use Prim.Native.Nat.{ℕ, zero, suc, ◌+◌, ◌*◌, ◌/◌, ◌%◌, ◌^◌, ◌<◌}
-use native.Mathlib.Nat.{div_one, zero_div, div_eq_of_lt}
+use native.Mathlib.Nat.{div-one, zero-div, div-eq_of_lt}
 use native.Mathlib.Omega.{arith}
 use native.Mathlib.Decide.{dec_lt}
 use mathlib.Core.Path.{◌≡◌, sym, ◌∙◌, ap}
 use mathlib.Core.Logic.{◌⊎◌, inl, inr}
 use lib.Bits.{block_half, block_odd}
-use lib.Pow.{shr_shr, split, high}
+use lib.Pow.{shr-shr, split, high}
 use Rattle.statement.specs.Cluster.{bit, In, Out}
 
 pub bit_zero : (c : ℕ) → bit c 0 ≡ c % 2
-bit_zero c = ap (λ (n : ℕ). n % 2) (div_one c)
+bit_zero c = ap (λ (n : ℕ). n % 2) (div-one c)
 
 pub bit_suc : (c i : ℕ) → bit c (suc i) ≡ bit (c / 2) i
-bit_suc c i = ap (λ (n : ℕ). n % 2) (ap (λ (n : ℕ). c / 2 ^ n) (omega arith) ∙ sym (shr_shr c 1 i))
+bit_suc c i = ap (λ (n : ℕ). n % 2) (ap (λ (n : ℕ). c / 2 ^ n) (omega arith) ∙ sym (shr-shr c 1 i))
 
 pub bit_lt : (c i : ℕ) → bit c i < 2
 bit_lt c i = omega arith
@@ -26,7 +26,7 @@ zero_or_one c i = go (dec_lt (bit c i) 1)
     go (no h) = inr (omega (arith, bit_lt c i))
 
 pub bit_none : (i : ℕ) → Out 0 i
-bit_none i = ap (λ (n : ℕ). n % 2) (zero_div (2 ^ i))
+bit_none i = ap (λ (n : ℕ). n % 2) (zero-div (2 ^ i))
 
 -- the greater of two numbers has a bit that the other lacks
 pub lt_bit : (k a b : ℕ) → a < b → b < 2 ^ k → (i : ℕ) × (i < k) × Out a i × In b i
@@ -51,7 +51,7 @@ pub bit_plus : (c k i : ℕ) → i < k → bit (2 ^ k + c) i ≡ bit c i
 bit_plus c k i h = ap (λ (n : ℕ). bit n i) (omega arith) ∙ bit_low i k 1 c h
 
 pub bit_past : (c k : ℕ) → c < 2 ^ k → Out c k
-bit_past c k h = ap (λ (n : ℕ). n % 2) (div_eq_of_lt h)
+bit_past c k h = ap (λ (n : ℕ). n % 2) (div-eq_of_lt h)
 
 pub bit_top : (c k : ℕ) → c < 2 ^ k → In (2 ^ k + c) k
 bit_top c k h = ap (λ (n : ℕ). n / 2 ^ k % 2) (omega arith) ∙ ap (λ (n : ℕ). n % 2) (high 1 k h)

@@ -6,9 +6,9 @@ use mathlib.Core.Logic.{inl, inr, ◌↔◌}
 use mathlib.Core.Bool.{Bool, true, false, cond, not, true≢false}
 use mathlib.Core.List.{List, [], ◌∷◌, map}
 use lib.Dec.{T}
-use lib.ListN.{length, length_append, length_map}
+use lib.ListN.{length, length-append, length-map}
 use lib.Pow.{pow_pos}
-use borrow.Author.Tests.{le_ltb, ne_eqb}
+use borrow.Author.Tests.{le-ltb, ne_eqb}
 use Rattle.statement.specs.Cluster.{Split, Trivial}
 use Rattle.statement.specs.Rows.{Row, row, clusters, Ascending, Mem}
 use Rattle.statement.specs.Lowest.{somewhere}
@@ -37,7 +37,7 @@ unfolding ins
 ins_end x lo [] a = refl
 ins_end x lo (y ∷ ys) a =
     let l = asc_le (suc y) x ys a.1 in
-    rw (le_ltb x y (omega arith), ne_eqb x y (λ e. omega arith)) (ap suc (ins_end x (suc y) ys a.1))
+    rw (le-ltb x y (omega arith), ne_eqb x y (λ e. omega arith)) (ap suc (ins_end x (suc y) ys a.1))
 
 wider : (lo hi hi' : ℕ) (ys : List ℕ) → hi ≤ hi' → Ascending lo hi ys → Ascending lo hi' ys
 wider lo hi hi' [] l h = omega arith
@@ -139,8 +139,8 @@ cost_candidates g k rows =
     let parents = g.parents k rows in
     omega (
       arith,
-      length_append parents (row (2 ^ k) g.most ∷ map (λ r. row (2 ^ k + r.cluster) r.weight) parents),
-      length_map parents (λ r. row (2 ^ k + r.cluster) r.weight),
+      length-append parents (row (2 ^ k) g.most ∷ map (λ r. row (2 ^ k + r.cluster) r.weight) parents),
+      length-map parents (λ r. row (2 ^ k + r.cluster) r.weight),
     )
 
 -- on a matrix as document 02 §7 counts it
@@ -152,5 +152,5 @@ matrix_cost d k rows w =
       fill_count k (clusters rows) w,
       others_are k (clusters rows) (clean_split k (clusters rows) w),
       ap length (clusters_trivial weight_limit k rows),
-      length_map (with_trivial weight_limit k rows) (λ r. r.cluster),
+      length-map (with_trivial weight_limit k rows) (λ r. r.cluster),
     )

@@ -9,7 +9,7 @@ use mathlib.Core.Logic.{◌⊎◌, inl, inr, ◌↔◌}
 use mathlib.Core.Bool.{Bool, true, false, cond}
 use mathlib.Core.List.{List, [], ◌∷◌, ◌++◌, map}
 use lib.Dec.{T, ltb, eqb, ltb→lt, lt→ltb}
-use borrow.Author.Tests.{eq_eqb, ne_eqb, eqb_true, eqb_false}
+use borrow.Author.Tests.{eq-eqb, ne_eqb, eqb-true, eqb-false}
 use Rattle.statement.specs.Rows.{Row, row, clusters, weights, Ascending, Mem, Listed, weight_in}
 use Rattle.statement.specs.Cluster.{Split}
 use Rattle.statement.specs.Growing.{candidates, cons_if, kept, enlarged, Manner, grown_rows}
@@ -45,7 +45,7 @@ weight_in_first (x ∷ xs) ys c m = go (eqb x.cluster c) refl m (λ n. weight_in
     go : (b : Bool) → eqb x.cluster c ≡ b → (c ≡ x.cluster) ⊎ Listed c xs → (Listed c xs → weight_in (xs ++ ys) c ≡ weight_in xs c)
         → cond b x.weight (weight_in (xs ++ ys) c) ≡ cond b x.weight (weight_in xs c)
     go true e m ih = refl
-    go false e (inl q) ih = absurd (eqb_false x.cluster c e (sym q))
+    go false e (inl q) ih = absurd (eqb-false x.cluster c e (sym q))
     go false e (inr n) ih = ih n
 
 weight_with : (b : ℕ) (rows : List Row) (c : ℕ) → weight_in (map (λ r. row (b + r.cluster) r.weight) rows) (b + c) ≡ weight_in rows c
@@ -55,7 +55,7 @@ weight_with b (r ∷ rs) c = go (ℕ_discrete r.cluster c) (weight_with b rs c)
     go : Dec (r.cluster ≡ c) → weight_in (map (λ r. row (b + r.cluster) r.weight) rs) (b + c) ≡ weight_in rs c
         → cond (eqb (b + r.cluster) (b + c)) r.weight (weight_in (map (λ r. row (b + r.cluster) r.weight) rs) (b + c))
         ≡ cond (eqb r.cluster c) r.weight (weight_in rs c)
-    go (yes e) ih = rw (eq_eqb r.cluster c e, eq_eqb (b + r.cluster) (b + c) (omega arith))
+    go (yes e) ih = rw (eq-eqb r.cluster c e, eq-eqb (b + r.cluster) (b + c) (omega arith))
     go (no e) ih = rw (ne_eqb r.cluster c e, ne_eqb (b + r.cluster) (b + c) (λ q. e (omega arith))) ih
 
 module _ (most k : ℕ) (rows : List Row) (up : Ascending 1 (2 ^ k) (clusters rows)) where
@@ -66,7 +66,7 @@ module _ (most k : ℕ) (rows : List Row) (up : Ascending 1 (2 ^ k) (clusters ro
   pub start_alone : weight_in (candidates most k rows) (2 ^ k) ≡ most
   start_alone =
       weight_append rows (row (2 ^ k) most ∷ map (λ r. row (2 ^ k + r.cluster) r.weight) rows) (2 ^ k) (not_listed (2 ^ k) (omega arith))
-      ∙ rw (eq_eqb (2 ^ k) (2 ^ k) refl)
+      ∙ rw (eq-eqb (2 ^ k) (2 ^ k) refl)
 
   start_old : (c : ℕ) → Mem c (extensions k (clusters rows)) → 0 < c % 2 ^ k → weight_in (candidates most k rows) c ≡ weight_in rows (c % 2 ^ k)
   start_old c m p = go (mod_cases k c of.0) of.1
@@ -92,7 +92,7 @@ keep_one : (ℕ → ℕ) → List ℕ → List Row
 keep_one v cs = map (λ c. row c (v c)) (keep_if (λ c. ltb 0 (v c)) cs)
 
 own_weight : (r : Row) (rs : List Row) → weight_in (r ∷ rs) r.cluster ≡ r.weight
-own_weight r rs = rw (eq_eqb r.cluster r.cluster refl)
+own_weight r rs = rw (eq-eqb r.cluster r.cluster refl)
 
 kept_is : (f : ℕ → ℕ → ℕ) (low high : ℕ) (all rows : List Row) → Ascending low high (clusters rows) → ((c : ℕ) → low ≤ c → weight_in all c ≡ weight_in rows c)
     → kept f rows ≡ keep_one (λ c. f c (weight_in all c)) (clusters rows)
@@ -129,8 +129,8 @@ weight_keep_one v cs c = go (keep_if (λ c. ltb 0 (v c)) cs)
     go (x ∷ xs) m = at (eqb x c) refl m (λ n. go xs n)
       where
         at : (b : Bool) → eqb x c ≡ b → (c ≡ x) ⊎ Mem c xs → (Mem c xs → weight_in (map (λ c. row c (v c)) xs) c ≡ v c) → cond b (v x) (weight_in (map (λ c. row c (v c)) xs) c) ≡ v c
-        at true e m ih = ap v (eqb_true x c e)
-        at false e (inl q) ih = absurd (eqb_false x c e (sym q))
+        at true e m ih = ap v (eqb-true x c e)
+        at false e (inl q) ih = absurd (eqb-false x c e (sym q))
         at false e (inr n) ih = ih n
 
 -- the weights that are kept are values above zero of candidates
@@ -207,7 +207,7 @@ weight_listed (r ∷ rs) c m = go (eqb r.cluster c) refl m (λ n. weight_listed 
     go : (b : Bool) → eqb r.cluster c ≡ b → (c ≡ r.cluster) ⊎ Listed c rs → (Listed c rs → Mem (weight_in rs c) (weights rs))
         → (cond b r.weight (weight_in rs c) ≡ r.weight) ⊎ Mem (cond b r.weight (weight_in rs c)) (weights rs)
     go true e m ih = inl refl
-    go false e (inl q) ih = absurd (eqb_false r.cluster c e (sym q))
+    go false e (inl q) ih = absurd (eqb-false r.cluster c e (sym q))
     go false e (inr n) ih = inr (ih n)
 
 module _ (r : Rule) (g : Manner) (sound : Sound r g) (k : ℕ) (fits : suc k ≤ r.taxa) (pk : 0 < k) (rows : List Row) (clean : Clean k (clusters rows)) where

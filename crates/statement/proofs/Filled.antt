@@ -7,8 +7,8 @@ use mathlib.Core.Logic.{◌≢◌, ◌⊎◌, inl, inr, ◌↔◌}
 use mathlib.Core.Bool.{Bool, true, false, cond}
 use mathlib.Core.List.{List, [], ◌∷◌}
 use lib.Dec.{T, ltb, eqb}
-use lib.Pow.{pow_pos, pow_lt}
-use borrow.Author.Tests.{eqb_true, eqb_false, ltb_true, ltb_false, eq_eqb, ne_eqb}
+use lib.Pow.{pow_pos, pow-lt}
+use borrow.Author.Tests.{eqb-true, eqb-false, ltb-true, ltb-false, eq-eqb, ne_eqb}
 use Rattle.statement.specs.Cluster.{bit, Out, Split, Conflict}
 use Rattle.statement.specs.Rows.{Ascending, Mem, Row, row, clusters, weight_in}
 use Rattle.statement.proofs.Answer.{Clean, ins, fill_to, fill}
@@ -26,7 +26,7 @@ ins_mem x c (y ∷ ys) = go (ltb x y) (eqb x y) refl (ins_mem x c ys)
     go : (b e : Bool) → eqb x y ≡ e → Mem c (ins x ys) ↔ ((c ≡ x) ⊎ Mem c ys)
         → Mem c (cond b (x ∷ y ∷ ys) (cond e (y ∷ ys) (y ∷ ins x ys))) ↔ ((c ≡ x) ⊎ ((c ≡ y) ⊎ Mem c ys))
     go true e q ih = ((λ m. m), (λ m. m))
-    go false true q ih = ((λ m. inr m), (λ m. elim m [ inl a ↦ inl (a ∙ eqb_true x y q) | inr b ↦ b ]))
+    go false true q ih = ((λ m. inr m), (λ m. elim m [ inl a ↦ inl (a ∙ eqb-true x y q) | inr b ↦ b ]))
     go false false q ih = (there, back)
       where
         there : (c ≡ y) ⊎ Mem c (ins x ys) → (c ≡ x) ⊎ ((c ≡ y) ⊎ Mem c ys)
@@ -44,9 +44,9 @@ ins_asc x lo hi [] l h a = (l, h)
 ins_asc x lo hi (y ∷ ys) l h a = go (ltb x y) refl (eqb x y) refl (λ m. ins_asc x (suc y) hi ys m h a.1)
   where
     go : (b : Bool) → ltb x y ≡ b → (e : Bool) → eqb x y ≡ e → (suc y ≤ x → Ascending (suc y) hi (ins x ys)) → Ascending lo hi (cond b (x ∷ y ∷ ys) (cond e (y ∷ ys) (y ∷ ins x ys)))
-    go true p e q ih = (l, (ltb_true x y p, a.1))
+    go true p e q ih = (l, (ltb-true x y p, a.1))
     go false p true q ih = a
-    go false p false q ih = (a.0, ih (let m = ltb_false x y p in let g = eqb_false x y q in omega arith))
+    go false p false q ih = (a.0, ih (let m = ltb-false x y p in let g = eqb-false x y q in omega arith))
 
 abbrev Below : ℕ → ℕ → Type 0
 Below k c = (i : ℕ) × (0 < i) × (i < k) × (c ≡ 2 ^ i)
@@ -104,7 +104,7 @@ fill_mem (suc (suc k)) c rows = (λ m. there ((ins_mem _ c (fill_to (suc (suc k)
       | inl q ↦ inl (
         record {
           some = omega (arith, q.3, pow_pos q.0);
-          below = rw q.3 (pow_lt q.2);
+          below = rw q.3 (pow-lt q.2);
           free = ap (λ (x : ℕ). bit x 0) q.3 ∙ pow_other q.0 0 (λ e. omega (arith, q.1));
         },
         trivial_pow (suc (suc k)) c q.0 q.2 q.3,
@@ -151,7 +151,7 @@ clusters_put r (x ∷ xs) = go (ltb r.cluster x.cluster) (eqb r.cluster x.cluste
         → clusters (cond b (r ∷ (x ∷ xs)) (cond e (r ∷ xs) (x ∷ put_in r xs)))
         ≡ cond b (r.cluster ∷ x.cluster ∷ clusters xs) (cond e (x.cluster ∷ clusters xs) (x.cluster ∷ ins r.cluster (clusters xs)))
     go true e q ih = refl
-    go false true q ih = ap (λ (c : ℕ). c ∷ clusters xs) (eqb_true r.cluster x.cluster q)
+    go false true q ih = ap (λ (c : ℕ). c ∷ clusters xs) (eqb-true r.cluster x.cluster q)
     go false false q ih = ap (λ (l : List ℕ). x.cluster ∷ l) ih
 
 clusters_singles : (most k : ℕ) (rows : List Row) → clusters (with_singles most k rows) ≡ fill_to k (clusters rows)
@@ -181,18 +181,18 @@ weight_put c w (x ∷ xs) p = go (ltb c x.cluster) (eqb c x.cluster) refl (weigh
       where
         same : (b : Bool) → eqb c p ≡ b → cond b w (weight_in xs p) ≡ cond b w (cond (eqb x.cluster p) x.weight (weight_in xs p))
         same true h = refl
-        same false h = sym (rw (ne_eqb x.cluster p (λ z. eqb_false c p h (eqb_true c x.cluster q ∙ z))))
+        same false h = sym (rw (ne_eqb x.cluster p (λ z. eqb-false c p h (eqb-true c x.cluster q ∙ z))))
     go false false q ih = rw ih (other (eqb c p) refl (eqb x.cluster p) refl)
       where
         other : (b : Bool) → eqb c p ≡ b → (e : Bool) → eqb x.cluster p ≡ e
             → cond e x.weight (cond b w (weight_in xs p)) ≡ cond b w (cond e x.weight (weight_in xs p))
-        other true h true z = absurd (eqb_false c x.cluster q (eqb_true c p h ∙ sym (eqb_true x.cluster p z)))
+        other true h true z = absurd (eqb-false c x.cluster q (eqb-true c p h ∙ sym (eqb-true x.cluster p z)))
         other true h false z = refl
         other false h true z = refl
         other false h false z = refl
 
 put_same : (c w : ℕ) (rows : List Row) → weight_in (put_in (row c w) rows) c ≡ w
-put_same c w rows = weight_put c w rows c ∙ rw (eq_eqb c c refl)
+put_same c w rows = weight_put c w rows c ∙ rw (eq-eqb c c refl)
 
 put_other : (c w : ℕ) (rows : List Row) (p : ℕ) → c ≢ p → weight_in (put_in (row c w) rows) p ≡ weight_in rows p
 put_other c w rows p d = weight_put c w rows p ∙ rw (ne_eqb c p d)

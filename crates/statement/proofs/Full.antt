@@ -1,7 +1,7 @@
 -- The full answer for k taxa grows to that for k + 1, and is the only one. Assumes nothing.
 use Prim.Native.Nat.{ℕ, suc, ◌+◌, ◌*◌, ◌%◌, ◌^◌, ◌≤◌, ◌<◌}
 use native.Mathlib.Omega.{arith}
-use native.Mathlib.Nat.{add_mod_left, mod_eq_of_lt, mod_self}
+use native.Mathlib.Nat.{add-mod_left, mod-eq_of_lt, mod_self}
 use mathlib.Core.Path.{◌≡◌, sym, ◌∙◌, ap, subst}
 use mathlib.Core.Logic.{◌⊎◌, inl, inr, ◌↔◌}
 use mathlib.Core.Bool.{Bool, false}
@@ -27,13 +27,13 @@ candidate_of k rows up c m = go ((mem_append c rows (2 ^ k ∷ map (λ d. 2 ^ k 
     go : Mem c rows ⊎ ((c ≡ 2 ^ k) ⊎ Mem c (map (λ d. 2 ^ k + d) rows)) → (c < 2 ^ suc k) × ((c ≡ 2 ^ k) ⊎ Mem (c % 2 ^ k) rows)
     go (inl a) =
         let l = asc_mem 1 (2 ^ k) rows up c a in
-        (omega (arith, l.1), inr (subst (λ (n : ℕ). Mem n rows) (sym (mod_eq_of_lt l.1)) a))
+        (omega (arith, l.1), inr (subst (λ (n : ℕ). Mem n rows) (sym (mod-eq_of_lt l.1)) a))
     go (inr (inl e)) = (omega (arith, pow_pos k), inl e)
     go (inr (inr b)) =
         let p = (mem_map (2 ^ k) c rows).0 b in
         let l = asc_mem 1 (2 ^ k) rows up p.0 p.1 in (
           omega (arith, l.1, p.2),
-          inr (subst (λ (n : ℕ). Mem n rows) (sym (ap (λ (n : ℕ). n % 2 ^ k) p.2 ∙ add_mod_left (2 ^ k) p.0 ∙ mod_eq_of_lt l.1)) p.1),
+          inr (subst (λ (n : ℕ). Mem n rows) (sym (ap (λ (n : ℕ). n % 2 ^ k) p.2 ∙ add-mod_left (2 ^ k) p.0 ∙ mod-eq_of_lt l.1)) p.1),
         )
 
 pub of_candidate : (k : ℕ) (rows : List ℕ) (c : ℕ) → c < 2 ^ suc k → (c ≡ 2 ^ k) ⊎ Mem (c % 2 ^ k) rows → Mem c (extensions k rows)

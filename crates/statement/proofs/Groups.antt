@@ -8,7 +8,7 @@ use mathlib.Core.Logic.{◌≢◌, ◌↔◌}
 use mathlib.Core.Bool.{Bool, true, false, cond, not, ◌&&◌}
 use lib.Dec.{eqb}
 use lib.Pow.{pow_pos}
-use borrow.Author.Tests.{eqb_true, eqb_false, eq_eqb, ne_eqb, not_true}
+use borrow.Author.Tests.{eqb-true, eqb-false, eq-eqb, ne_eqb, not-true}
 use Rattle.statement.specs.Cluster.{bit, In, group_of}
 use Rattle.statement.specs.Lowest.{somewhere}
 use Rattle.statement.specs.Tree.{strictly_in}
@@ -68,13 +68,13 @@ part_le n a b la part = go (dec_lt b a)
 pub strictly_is : (n a b : ℕ) → (strictly_in n a b ≡ true) ↔ Strictly n a b
 strictly_is n a b =
     let lacked : ℕ → Bool = λ i. eqb (bit a i) 1 && eqb (bit b i) 0 in
-    let all = both_is (Iff.trans (not_true (somewhere lacked n), ap not) (none_is lacked n here)) ((λ e. eqb_false a b (not_true _ e)), (λ o. ap not (ne_eqb a b o))) in
+    let all = both_is (Iff.trans (not-true (somewhere lacked n), ap not) (none_is lacked n here)) ((λ e. eqb-false a b (not-true _ e)), (λ o. ap not (ne_eqb a b o))) in
     ((λ e. record { part = (all.0 e).0; other = (all.0 e).1 }), (λ s. all.1 (s.part, s.other)))
   where
     inside : (i : ℕ) → (eqb (bit b i) 0 ≡ false) ↔ In b i
-    inside i = ((λ e. omega (arith, eqb_false (bit b i) 0 e)), (λ h. ne_eqb (bit b i) 0 (λ o. omega arith)))
+    inside i = ((λ e. omega (arith, eqb-false (bit b i) 0 e)), (λ h. ne_eqb (bit b i) 0 (λ o. omega arith)))
 
     here : (i : ℕ) → (eqb (bit a i) 1 && eqb (bit b i) 0 ≡ false) ↔ (In a i → In b i)
     here i =
         let u = unless_is (eqb (bit a i) 1) (inside i) in
-        ((λ e h. u.0 e (eq_eqb (bit a i) 1 h)), (λ f. u.1 (λ q. f (eqb_true (bit a i) 1 q))))
+        ((λ e h. u.0 e (eq-eqb (bit a i) 1 h)), (λ f. u.1 (λ q. f (eqb-true (bit a i) 1 q))))

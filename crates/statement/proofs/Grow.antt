@@ -1,6 +1,6 @@
 -- Supported splits of k + 1 taxa, from those of k. Assumes nothing.
 use Prim.Native.Nat.{ℕ, suc, ◌+◌, ◌%◌, ◌^◌, ◌-◌, ◌≤◌, ◌<◌}
-use native.Mathlib.Nat.{mod_lt, mod_le, mod_eq_of_lt, mod_eq_sub_mod}
+use native.Mathlib.Nat.{mod-lt, mod-le, mod-eq_of_lt, mod-eq-sub-mod}
 use native.Mathlib.Omega.{arith}
 use native.Mathlib.Decide.{dec_lt}
 use mathlib.Core.Path.{◌≡◌, refl, sym, ◌∙◌, ap, subst}
@@ -110,11 +110,11 @@ pub mod_cases : (k c : ℕ) → c < 2 ^ suc k → (c % 2 ^ k ≡ c) ⊎ (2 ^ k +
 mod_cases k c h = go (dec_lt c (2 ^ k))
   where
     go : Dec (c < 2 ^ k) → (c % 2 ^ k ≡ c) ⊎ (2 ^ k + c % 2 ^ k ≡ c)
-    go (yes l) = inl (mod_eq_of_lt l)
+    go (yes l) = inl (mod-eq_of_lt l)
     go (no l) =
         let le : 2 ^ k ≤ c = omega arith in
         let small : c - 2 ^ k < 2 ^ k = omega arith in
-        inr (omega (arith, mod_eq_sub_mod le ∙ mod_eq_of_lt small))
+        inr (omega (arith, mod-eq-sub-mod le ∙ mod-eq_of_lt small))
 
 pub alone_low : (k i : ℕ) → i < k → Out (2 ^ k) i
 alone_low k i h = ap (λ (n : ℕ). bit n i) (omega arith) ∙ bit_plus 0 k i h ∙ bit_none i
@@ -138,7 +138,7 @@ grow r laws k c fits pk = (there, back)
     )
       where
         parent : 0 < c % 2 ^ k → Split k (c % 2 ^ k)
-        parent h = record { some = h; below = mod_lt c (pow_pos k); free = bit_mod c k 0 pk ∙ s.split.free }
+        parent h = record { some = h; below = mod-lt c (pow_pos k); free = bit_mod c k 0 pk ∙ s.split.free }
 
         go : (c % 2 ^ k ≡ c) ⊎ (2 ^ k + c % 2 ^ k ≡ c) → Dec (0 < c % 2 ^ k) → (b : Bool) → r.anew k (c % 2 ^ k) ≡ b → (c ≡ 2 ^ k) ⊎ Parent r k (c % 2 ^ k)
         go m (yes h) true e = inr (record { split = parent h; held = inl (subst T (sym e) tt) })
@@ -163,6 +163,6 @@ grow r laws k c fits pk = (there, back)
             }
         go (inr s) =
             record {
-              split = record { some = omega (arith, mod_le c (2 ^ k), s.split.some); below = p.0; free = sym (bit_mod c k 0 pk) ∙ s.split.free };
+              split = record { some = omega (arith, mod-le c (2 ^ k), s.split.some); below = p.0; free = sym (bit_mod c k 0 pk) ∙ s.split.free };
               fours = fours s (r.anew k (c % 2 ^ k)) refl s.held;
             }

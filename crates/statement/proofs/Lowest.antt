@@ -6,7 +6,7 @@ use native.Mathlib.Nat.{le_antisymm}
 use mathlib.Core.Path.{◌≡◌, refl, sym, ◌∙◌, ap}
 use mathlib.Core.Bool.{Bool, true, false, cond, true≢false}
 use borrow.Author.Count.{below_none, below_more}
-use borrow.Author.Tests.{ltb_true, ltb_false, lt_ltb, le_ltb}
+use borrow.Author.Tests.{ltb-true, ltb-false, lt-ltb, le-ltb}
 use Rattle.statement.specs.Lowest.{lowest_from, lowest, somewhere}
 
 -- WHAT IT IS: within its range, the test holds there, and nowhere before
@@ -64,25 +64,25 @@ pub some_at : (p : ℕ → Bool) (m i : ℕ) → i < m → p i ≡ true → some
 some_at p m i l e = go (dec_lt (lowest p m) m)
   where
     go : Dec (lowest p m < m) → somewhere p m ≡ true
-    go (yes h) = lt_ltb (lowest p m) m h
+    go (yes h) = lt-ltb (lowest p m) m h
     go (no h) = absurd (true≢false (sym e ∙ (lowest_is p 0 m).before i (omega arith) (omega arith)))
 
 pub some_of : (p : ℕ → Bool) (m : ℕ) → somewhere p m ≡ true → (i : ℕ) × (i < m) × (p i ≡ true)
-some_of p m e = let h = ltb_true (lowest p m) m e in (lowest p m, h, (lowest_is p 0 m).hit (omega arith))
+some_of p m e = let h = ltb-true (lowest p m) m e in (lowest p m, h, (lowest_is p 0 m).hit (omega arith))
 
 pub none_of : (p : ℕ → Bool) (m : ℕ) → somewhere p m ≡ false → (i : ℕ) → i < m → p i ≡ false
-none_of p m e i l = (lowest_is p 0 m).before i (omega arith) (omega (arith, ltb_false (lowest p m) m e))
+none_of p m e i l = (lowest_is p 0 m).before i (omega arith) (omega (arith, ltb-false (lowest p m) m e))
 
 pub none_at : (p : ℕ → Bool) (m : ℕ) → ((i : ℕ) → i < m → p i ≡ false) → somewhere p m ≡ false
 none_at p m f = go (dec_lt (lowest p m) m)
   where
     go : Dec (lowest p m < m) → somewhere p m ≡ false
     go (yes h) = absurd (true≢false (sym ((lowest_is p 0 m).hit (omega arith)) ∙ f (lowest p m) h))
-    go (no h) = le_ltb (lowest p m) m (omega arith)
+    go (no h) = le-ltb (lowest p m) m (omega arith)
 
 -- where some place passes, the lowest one does; where none does it is the count
 pub lowest_none : (p : ℕ → Bool) (m : ℕ) → somewhere p m ≡ false → lowest p m ≡ m
-lowest_none p m e = le_antisymm (let h = (lowest_is p 0 m).to in omega arith) (ltb_false (lowest p m) m e)
+lowest_none p m e = le_antisymm (let h = (lowest_is p 0 m).to in omega arith) (ltb-false (lowest p m) m e)
 
 -- A LOOP that looks for it among the places below m, and has passed those below i
 pub record Looking (p : ℕ → Bool) (m i : ℕ) : Type 0 where

@@ -7,7 +7,7 @@ use lib.Dec.{T, ltb, leb→le, le→leb}
 use lib.IntN.{ℤ, pos, negsuc, sub_ℕ}
 use lib.Signed.{◌≤ℤ◌, ◌<ℤ◌, le_z}
 use mathlib.Core.Logic.{◌↔◌}
-use borrow.Author.Tests.{ltb_true, ltb_false}
+use borrow.Author.Tests.{ltb-true, ltb-false}
 use Rattle.statement.specs.Matrix.{score}
 use Rattle.statement.proofs.Rule.{Laws}
 use Rattle.statement.proofs.Instances.{repeat_rule}
@@ -17,7 +17,7 @@ pub le_sub : (t a b : ℕ) → t + b ≤ a → pos t ≤ℤ sub_ℕ a b
 le_sub t a b h = record { le = go (ltb a b) refl }
   where
     go : (s : Bool) → ltb a b ≡ s → T (le_z (pos t) (cond s (negsuc (b - suc a)) (pos (a - b))))
-    go true e = absurd (omega (arith, ltb_true a b e))
+    go true e = absurd (omega (arith, ltb-true a b e))
     go false e = le→leb t (a - b) (omega arith)
 
 pub sub_le : (t a b : ℕ) → pos t ≤ℤ sub_ℕ a b → t + b ≤ a
@@ -25,7 +25,7 @@ sub_le t a b h = go (ltb a b) refl h.le
   where
     go : (s : Bool) → ltb a b ≡ s → T (le_z (pos t) (cond s (negsuc (b - suc a)) (pos (a - b)))) → t + b ≤ a
     go true e g = absurd g
-    go false e g = omega (arith, leb→le t (a - b) g, ltb_false a b e)
+    go false e g = omega (arith, leb→le t (a - b) g, ltb-false a b e)
 
 -- a score of t or more, as an order in ℕ
 abbrev pub Least : (ℕ → ℕ → ℕ) → ℕ → ℕ → ℕ → ℕ → ℕ → Type 0

@@ -4,7 +4,7 @@ use native.Mathlib.Omega.{arith}
 use native.Mathlib.Decide.{dec_lt}
 use mathlib.Core.Path.{◌≡◌, refl, sym, ◌∙◌, ap, ap₂}
 use mathlib.Core.Logic.{◌≢◌}
-use borrow.Author.Tests.{lt_ltb, le_ltb}
+use borrow.Author.Tests.{lt-ltb, le-ltb}
 use Rattle.statement.specs.Table.{choose, Pairing, ordered, lower_first, pairing}
 use Rattle.statement.specs.Table
 use Rattle.statement.proofs.Rule.{Distinct}
@@ -30,15 +30,15 @@ rank_is w x y z t a b c d p q r s = omega arith
 -- the three cases of an ordered pairing
 pub first : (w x y z : ℕ) → x < y → ordered w x y z ≡ record { place = Table.place w x y z; byte = 1 }
 unfolding ordered
-first w x y z l = rw (lt_ltb x y l)
+first w x y z l = rw (lt-ltb x y l)
 
 pub second : (w x y z : ℕ) → y ≤ x → x < z → ordered w x y z ≡ record { place = Table.place w y x z; byte = 2 }
 unfolding ordered
-second w x y z l m = rw (le_ltb x y l, lt_ltb x z m)
+second w x y z l m = rw (le-ltb x y l, lt-ltb x z m)
 
 pub third : (w x y z : ℕ) → y ≤ x → z ≤ x → ordered w x y z ≡ record { place = Table.place w y z x; byte = 3 }
 unfolding ordered
-third w x y z l m = rw (le_ltb x y l, le_ltb x z m)
+third w x y z l m = rw (le-ltb x y l, le-ltb x z m)
 
 -- of a pairing whose first taxon is the least
 module _ (w x y z : ℕ) (wx : w < x) (wy : w < y) (yz : y < z) where
@@ -93,11 +93,11 @@ ranked_swap_last w x y z d =
 -- and the two of the pairs
 pub first_lower : (a b c d : ℕ) → a < c → lower_first a b c d ≡ ordered a b c d
 unfolding lower_first
-first_lower a b c d l = rw (lt_ltb a c l)
+first_lower a b c d l = rw (lt-ltb a c l)
 
 pub last_lower : (a b c d : ℕ) → c ≤ a → lower_first a b c d ≡ ordered c d a b
 unfolding lower_first
-last_lower a b c d l = rw (le_ltb a c l)
+last_lower a b c d l = rw (le-ltb a c l)
 
 lower_first_is : (a b c d : ℕ) → a < b → c < d → Distinct a b c d → lower_first a b c d ≡ ranked a b c d
 lower_first_is a b c d ab cd dis = go (dec_lt a c)

@@ -1,7 +1,7 @@
 -- GROWTH ON A MATRIX answers by its rule: what a trial says, whose fours it looks at, and what is extended. Assumes nothing.
 use Prim.Native.Nat.{ℕ, suc, ◌-◌, ◌%◌, ◌^◌, ◌≤◌, ◌<◌}
 use native.Mathlib.Omega.{arith}
-use native.Mathlib.Nat.{mod_lt}
+use native.Mathlib.Nat.{mod-lt}
 use native.Mathlib.Decide.{dec_lt, ℕ_discrete}
 use mathlib.Core.Path.{◌≡◌, refl, sym, ◌∙◌, ap, subst}
 use mathlib.Core.Logic.{◌≢◌, ◌⊎◌, inl, inr, ◌↔◌}
@@ -9,7 +9,7 @@ use mathlib.Core.Bool.{Bool, true, false, cond, not, ◌&&◌, ◌||◌, true≢
 use mathlib.Core.List.{List}
 use lib.Dec.{T, ltb, eqb}
 use lib.Pow.{pow_pos}
-use borrow.Author.Tests.{eqb_true, eq_eqb, ltb_true}
+use borrow.Author.Tests.{eqb-true, eq-eqb, ltb-true}
 use Rattle.statement.specs.Cluster.{bit, In, Out, Split, Single, Pair}
 use Rattle.statement.specs.Lowest.{lowest, somewhere}
 use Rattle.statement.specs.Matrix.{score, weight_limit}
@@ -42,25 +42,25 @@ alone_single n c u e = record { only = λ i l s. at i l s (eqb i u) refl }
     flip false h = refl
 
     at : (i : ℕ) → i < n → bit c i ≡ bit c u → (b : Bool) → eqb i u ≡ b → i ≡ u
-    at i l s true q = eqb_true i u q
-    at i l s false q = absurd (true≢false (sym (rw (eq_eqb (bit c i) (bit c u) s, q)) ∙ none_of other n (flip (somewhere other n) e) i l))
+    at i l s true q = eqb-true i u q
+    at i l s false q = absurd (true≢false (sym (rw (eq-eqb (bit c i) (bit c u) s, q)) ∙ none_of other n (flip (somewhere other n) e) i l))
 
 pub single_alone : (n c u : ℕ) → Single n c u → alone n c u ≡ true
 unfolding alone
 single_alone n c u h = ap not (none_at (λ i. eqb (bit c i) (bit c u) && not (eqb i u)) n (λ i l. at i l (eqb (bit c i) (bit c u)) refl))
   where
     at : (i : ℕ) → i < n → (b : Bool) → eqb (bit c i) (bit c u) ≡ b → (b && not (eqb i u)) ≡ false
-    at i l true q = rw (eq_eqb i u (h.only i l (eqb_true (bit c i) (bit c u) q)))
+    at i l true q = rw (eq-eqb i u (h.only i l (eqb-true (bit c i) (bit c u) q)))
     at i l false q = refl
 
 pub pairs_pair : (n c u u' : ℕ) → pairs n c u u' ≡ true → Pair n c u u'
-pairs_pair n c u u' h e = alone_single n c u (rw (eq_eqb u u' e) at h)
+pairs_pair n c u u' h e = alone_single n c u (rw (eq-eqb u u' e) at h)
 
 pub pair_pairs : (n c u u' : ℕ) → Pair n c u u' → pairs n c u u' ≡ true
 pair_pairs n c u u' p = at (eqb u u') refl
   where
     at : (b : Bool) → eqb u u' ≡ b → (not b || alone n c u) ≡ true
-    at true q = single_alone n c u (p (eqb_true u u' q))
+    at true q = single_alone n c u (p (eqb-true u u' q))
     at false q = refl
 
 -- WHAT A TRIAL'S ANSWER MEANS
@@ -115,7 +115,7 @@ looked_at n a c = go (ltb (lowest (alone n c) n) n) refl
   where
     go : (b : Bool) → somewhere (alone n c) n ≡ b
         → ((cond b (lowest (alone n c) n) a < n) × Single n c (cond b (lowest (alone n c) n) a)) ⊎ ((cond b (lowest (alone n c) n) a ≡ a) × ((u : ℕ) → u < n → Single n c u → ⊥))
-    go true e = let l = ltb_true (lowest (alone n c) n) n e in inl (l, alone_single n c (lowest (alone n c) n) ((lowest_is (alone n c) 0 n).hit (omega arith)))
+    go true e = let l = ltb-true (lowest (alone n c) n) n e in inl (l, alone_single n c (lowest (alone n c) n) ((lowest_is (alone n c) 0 n).hit (omega arith)))
     go false e = inr (refl, λ u l h. true≢false (sym (single_alone n c u h) ∙ none_of (alone n c) n e u l))
 
 module _ (N : ℕ) (d : ℕ → ℕ → ℕ) (sy : (i j : ℕ) → i < N → j < N → d i j ≡ d j i) (k : ℕ) (fits : suc k ≤ N) (pk : 0 < k) where
@@ -183,7 +183,7 @@ module _ (N : ℕ) (d : ℕ → ℕ → ℕ) (sy : (i j : ℕ) → i < N → j <
 
               newcomer : Single (suc k) c k → Out c k ⊎ In c k → ⊥
               newcomer s (inl o) = omega (arith, s.only 0 (omega arith) (low ∙ sym o))
-              newcomer s (inr i) = omega (arith, p.some, none (c % 2 ^ k) (mod_lt c (pow_pos k)) (λ j lj. bit_mod c k j lj ∙ at j lj (zero_or_one c j)))
+              newcomer s (inr i) = omega (arith, p.some, none (c % 2 ^ k) (mod-lt c (pow_pos k)) (λ j lj. bit_mod c k j lj ∙ at j lj (zero_or_one c j)))
                 where
                   at : (j : ℕ) → j < k → Out c j ⊎ In c j → Out c j
                   at j lj (inl o) = o

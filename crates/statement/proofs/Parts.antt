@@ -5,7 +5,7 @@ use mathlib.Core.Logic.{◌≢◌}
 use mathlib.Core.Bool.{Bool, true, false, cond, ◌&&◌, ◌||◌}
 use mathlib.Core.List.{List}
 use lib.Dec.{eqb}
-use borrow.Author.Tests.{eq_eqb, ne_eqb, eqb_true, eqb_false}
+use borrow.Author.Tests.{eq-eqb, ne_eqb, eqb-true, eqb-false}
 use Rattle.statement.specs.Cluster.{bit}
 use Rattle.statement.specs.Matrix.{score}
 use Rattle.statement.specs.Table.{stands, table_weight}
@@ -45,10 +45,10 @@ over_parts f n a c w = refl
 -- SIDES of the split c, as a test of i beside a shows them
 module _ (c a i : ℕ) {r : Bool} (e : r ≡ eqb (bit c i) (bit c a)) where
   pub on_side : r ≡ true → bit c i ≡ bit c a
-  on_side h = eqb_true (bit c i) (bit c a) (sym e ∙ h)
+  on_side h = eqb-true (bit c i) (bit c a) (sym e ∙ h)
 
   pub off_side : r ≡ false → bit c i ≢ bit c a
-  off_side h = eqb_false (bit c i) (bit c a) (sym e ∙ h)
+  off_side h = eqb-false (bit c i) (bit c a) (sym e ∙ h)
 
 -- x is on a's side of c, y and z are on the other
 pub record Parted (c a x y z : ℕ) : Type 0 where
@@ -58,7 +58,7 @@ pub record Parted (c a x y z : ℕ) : Type 0 where
 
 pub parted : {c a x y z : ℕ} → Parted c a x y z → parts_as c a x y z ≡ true
 parted {c} {a} {x} {y} {z} p =
-    rw (eq_eqb (bit c x) (bit c a) p.x_side, ne_eqb (bit c y) (bit c a) p.y_side, ne_eqb (bit c z) (bit c a) p.z_side)
+    rw (eq-eqb (bit c x) (bit c a) p.x_side, ne_eqb (bit c y) (bit c a) p.y_side, ne_eqb (bit c z) (bit c a) p.z_side)
 
 -- only a may be x, and y be z
 pub parted_distinct : {c a x y z : ℕ} → Parted c a x y z → a ≢ x → y ≢ z → Distinct a x y z

@@ -5,7 +5,7 @@ use mathlib.Core.Path.{◌≡◌, refl, sym, ◌∙◌, ap, ap₂, subst}
 use mathlib.Core.Logic.{◌↔◌, ◌≢◌, ◌⊎◌, inl, inr}
 use mathlib.Core.Bool.{Bool, true, false, cond}
 use mathlib.Core.List.{List, [], ◌∷◌, ◌++◌}
-use borrow.Author.Tests.{ltb_true, lt_ltb, le_ltb}
+use borrow.Author.Tests.{ltb-true, lt-ltb, le-ltb}
 use Rattle.statement.specs.declared.Outcome.{Outcome}
 use Rattle.statement.specs.declared.Outcome.TheVariants.{Done, Short, Refused}
 use Rattle.statement.specs.Lowest.{lowest_from, lowest, somewhere}
@@ -17,11 +17,11 @@ use Rattle.statement.proofs.Lowest.{Lowest, lowest_is, lowest_at, lowest_none, n
 module _ (c : Check) (cs : List Check) (r : ℕ) (e : r ≡ lowest c.bad c.places) where
   pub refused_at : r < c.places → outcome_of (c ∷ cs) ≡ Refused c.number r
   unfolding outcome_of
-  refused_at h = rw (← e, lt_ltb r c.places h)
+  refused_at h = rw (← e, lt-ltb r c.places h)
 
   pub passed_at : c.places ≤ r → outcome_of (c ∷ cs) ≡ outcome_of cs
   unfolding outcome_of
-  passed_at h = rw (← e, le_ltb r c.places h)
+  passed_at h = rw (← e, le-ltb r c.places h)
 
 pub first_passed : (c : Check) (cs : List Check) → Passed c → outcome_of (c ∷ cs) ≡ outcome_of cs
 first_passed c cs p = passed_at c cs c.places (sym (lowest_none c.bad c.places (none_at c.bad c.places p))) (omega arith)
@@ -54,7 +54,7 @@ pub single_fails : (number : ℕ) (b : Bool) → b ≡ true → Fails (single nu
 single_fails number b e = record { named = refl; within = omega arith; bad = e; lowest = λ i l. absurd (omega arith) }
 
 fails_at : (c : Check) → somewhere c.bad c.places ≡ true → Fails c c.number (lowest c.bad c.places)
-fails_at c e = fails c (lowest c.bad c.places) refl (ltb_true (lowest c.bad c.places) c.places e)
+fails_at c e = fails c (lowest c.bad c.places) refl (ltb-true (lowest c.bad c.places) c.places e)
 
 pub given_refused : (checks : List Check) (number place : ℕ) → Given checks number place → outcome_of checks ≡ Refused number place
 given_refused (c ∷ cs) number place (inl f) =

@@ -4,8 +4,8 @@ use native.Mathlib.Omega.{arith}
 use mathlib.Core.Path.{◌≡◌, refl, sym, ◌∙◌, ap, ap₂}
 use mathlib.Core.Logic.{inl}
 use mathlib.Core.List.{List, [], ◌∷◌}
-use lib.ListN.{length, length_map}
-use borrow.Author.Tests.{le_leb, lt_leb}
+use lib.ListN.{length, length-map}
+use borrow.Author.Tests.{le-leb, lt-leb}
 use Rattle.statement.specs.declared.Splits.{Splits}
 use Rattle.statement.specs.declared.Outcome.TheVariants.{Done, Short}
 use Rattle.statement.specs.Rows.{Row, clusters, weights, rows_of, list_of}
@@ -20,7 +20,7 @@ use Rattle.statement.proofs.Enlarged.{Sound, WellRows, FullRows, enlarged_well, 
 
 -- rows without conflict are few: at most 2k-3
 pub rows_few : (most k : ℕ) (rows : List Row) → 2 ≤ k → WellRows most k rows → length rows + 3 ≤ 2 * k
-rows_few most k rows two w = omega (arith, well_length k (clusters rows) two w.clean, length_map rows (λ r. r.cluster))
+rows_few most k rows two w = omega (arith, well_length k (clusters rows) two w.clean, length-map rows (λ r. r.cluster))
 
 pub no_rows : (most : ℕ) → WellRows most 1 []
 no_rows most =
@@ -51,10 +51,10 @@ module _ (r : Rule) (g : Manner) (sound : Sound r g) where
 
   -- what is extended is few too
   pub parents_few : (k : ℕ) (rows : List Row) → 2 ≤ k → Clean k (clusters rows) → length (g.parents k rows) + 3 ≤ 2 * k
-  parents_few k rows two w = omega (arith, well_length k (clusters (g.parents k rows)) two (sound.extends k rows w).clean, length_map (g.parents k rows) (λ r. r.cluster))
+  parents_few k rows two w = omega (arith, well_length k (clusters (g.parents k rows)) two (sound.extends k rows w).clean, length-map (g.parents k rows) (λ r. r.cluster))
 
   pub one_none : (rows : List Row) → Clean 1 (clusters rows) → length (g.parents 1 rows) ≡ 0
-  one_none rows w = sym (length_map (g.parents 1 rows) (λ r. r.cluster)) ∙ none (clusters (g.parents 1 rows)) (sound.extends 1 rows w).clean
+  one_none rows w = sym (length-map (g.parents 1 rows) (λ r. r.cluster)) ∙ none (clusters (g.parents 1 rows)) (sound.extends 1 rows w).clean
     where
       none : (cs : List ℕ) → Clean 1 cs → length cs ≡ 0
       none [] c = refl
@@ -81,11 +81,11 @@ module _ (g : Manner) where
   pub grown_covered : (f left spent : ℕ) (s : Splits) → cost g s ≤ left
       → grown g (suc f) left spent s ≡ grown g f (left - cost g s) (spent + cost g s) (larger g s)
   unfolding grown
-  grown_covered f left spent s h = rw (le_leb (cost g s) left h)
+  grown_covered f left spent s h = rw (le-leb (cost g s) left h)
 
   pub grown_short : (f left spent : ℕ) (s : Splits) → left < cost g s → grown g (suc f) left spent s ≡ record { outcome = Short; list = s; trials = spent }
   unfolding grown
-  grown_short f left spent s h = rw (lt_leb (cost g s) left h)
+  grown_short f left spent s h = rw (lt-leb (cost g s) left h)
 
   trials_up : (f k n : ℕ) → suc k + f ≡ n → trials_at g (suc k) ≤ trials_at g n
   unfolding trials_at

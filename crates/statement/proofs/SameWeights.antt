@@ -9,7 +9,7 @@ use mathlib.Core.Bool.{Bool, true, false, cond}
 use lib.Dec.{T, ltb, leb→le, le→leb}
 use lib.IntN.{ℤ, pos, negsuc, sub_ℕ}
 use lib.Signed.{◌≤ℤ◌, ◌<ℤ◌, le_z, ≤ℤ_refl, <ℤ-≤ℤ_trans}
-use borrow.Author.Tests.{ltb_true, ltb_false}
+use borrow.Author.Tests.{ltb-true, ltb-false}
 use Rattle.statement.specs.Cluster.{bit, Single, Across, Pair}
 use Rattle.statement.specs.Matrix.{score, Asked, MatrixWeight, MatrixSupported, RepeatWeight, RepeatSupported, Triangle}
 use Rattle.statement.proofs.Single.{single_or}
@@ -33,10 +33,10 @@ less_sub : (a b c e : ℕ) → a + e ≤ c + b → sub_ℕ a b ≤ℤ sub_ℕ c 
 less_sub a b c e h = record { le = go (ltb a b) refl (ltb c e) refl }
   where
     go : (p : Bool) → ltb a b ≡ p → (q : Bool) → ltb c e ≡ q → T (le_z (cond p (negsuc (b - suc a)) (pos (a - b))) (cond q (negsuc (e - suc c)) (pos (c - e))))
-    go true p true q = le→leb (e - suc c) (b - suc a) (omega (arith, ltb_true a b p, ltb_true c e q))
+    go true p true q = le→leb (e - suc c) (b - suc a) (omega (arith, ltb-true a b p, ltb-true c e q))
     go true p false q = tt
-    go false p true q = absurd (omega (arith, ltb_false a b p, ltb_true c e q))
-    go false p false q = le→leb (a - b) (c - e) (omega (arith, ltb_false a b p, ltb_false c e q))
+    go false p true q = absurd (omega (arith, ltb-false a b p, ltb-true c e q))
+    go false p false q = le→leb (a - b) (c - e) (omega (arith, ltb-false a b p, ltb-false c e q))
 
 module _ (n : ℕ) (d : ℕ → ℕ → ℕ) (sy : (i j : ℕ) → i < n → j < n → d i j ≡ d j i) (diag : (i : ℕ) → i < n → d i i ≡ 0) (keeps : Triangle n d)
     (k c : ℕ) (fits : k ≤ n) where

@@ -7,7 +7,7 @@ use mathlib.Core.List.{List}
 use lib.Dec.{ltb, le→leb}
 use lib.IntN.{pos, negsuc, neg_ℤ, sub_ℕ}
 use lib.Signed.{◌≤ℤ◌, ◌<ℤ◌}
-use borrow.Author.Tests.{ltb_true}
+use borrow.Author.Tests.{ltb-true}
 use Rattle.statement.specs.Matrix.{distance, weight_limit, AcceptedMatrix, score}
 use Rattle.statement.proofs.Matrix.{of_score, above_zero, Least}
 
@@ -57,5 +57,5 @@ module _ (n : ℕ) (entries : List ℕ) (accepted : AcceptedMatrix n entries) (w
         where
           go : (s : Bool) → ltb a b ≡ s
               → (neg_ℤ (pos weight_limit) ≤ℤ cond s (negsuc (b - suc a)) (pos (a - b))) × (cond s (negsuc (b - suc a)) (pos (a - b)) ≤ℤ pos weight_limit)
-          go true e = let h = ltb_true a b e in (record { le = le→leb (b - suc a) 1999999 (omega arith) }, record { le = tt })
+          go true e = let h = ltb-true a b e in (record { le = le→leb (b - suc a) 1999999 (omega arith) }, record { le = tt })
           go false e = (record { le = tt }, record { le = le→leb (a - b) weight_limit (omega arith) })

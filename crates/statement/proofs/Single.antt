@@ -6,8 +6,8 @@ use mathlib.Core.Path.{◌≡◌, refl, sym, ◌∙◌, ap}
 use mathlib.Core.Logic.{◌≢◌, ◌⊎◌, inl, inr}
 use mathlib.Core.Bool.{Bool, true, false, cond}
 use lib.Dec.{T, eqb}
-use lib.Pow.{pow_pos, pow_lt}
-use borrow.Author.Tests.{eqb_true, eq_eqb}
+use lib.Pow.{pow_pos, pow-lt}
+use borrow.Author.Tests.{eqb-true, eq-eqb}
 use Rattle.statement.specs.Cluster.{bit, In, Out, Split, Conflict, Single, Pair}
 use Rattle.statement.proofs.Instances.{pow_below, trivial}
 use Rattle.statement.proofs.Bits.{lt_bit, bit_zero, bit_suc, zero_or_one, bit_past, bit_top, bit_ext}
@@ -22,7 +22,7 @@ pow_other i j d = go (dec_lt j i)
   where
     go : Dec (j < i) → Out (2 ^ i) j
     go (yes l) = alone_low i j l
-    go (no l) = let h : i < j = omega arith in bit_past (2 ^ i) j (pow_lt h)
+    go (no l) = let h : i < j = omega arith in bit_past (2 ^ i) j (pow-lt h)
 
 ones : (m a j : ℕ) → a + 1 ≡ 2 ^ m → j < m → In a j
 ones zero a j e l = absurd (omega arith)
@@ -40,7 +40,7 @@ pow_of zero c h = absurd h
 pow_of (suc k) c h = go (eqb c (2 ^ k)) refl h (λ g. pow_of k c g)
   where
     go : (b : Bool) → eqb c (2 ^ k) ≡ b → T (cond b true (pow_below k c)) → (T (pow_below k c) → (i : ℕ) × (i < k) × (c ≡ 2 ^ i)) → (i : ℕ) × (i < suc k) × (c ≡ 2 ^ i)
-    go true e g ih = (k, omega arith, eqb_true c (2 ^ k) e)
+    go true e g ih = (k, omega arith, eqb-true c (2 ^ k) e)
     go false e g ih = let q = ih g in (q.0, omega arith, q.2)
 
 of_pow : (k c i : ℕ) → i < k → c ≡ 2 ^ i → T (pow_below k c)
@@ -53,19 +53,19 @@ of_pow (suc k) c i l e = go (eqb c (2 ^ k)) refl (dec_lt i k) (λ m. of_pow k c 
     go false q (yes m) ih = ih m
     go false q (no m) ih =
         let n : i ≡ k = omega arith in
-        absurd (let z : false ≡ true = sym q ∙ eq_eqb c (2 ^ k) (e ∙ ap (λ (x : ℕ). 2 ^ x) n) in let y : ◌≡◌ {A = ℕ} 0 1 = cc in omega arith)
+        absurd (let z : false ≡ true = sym q ∙ eq-eqb c (2 ^ k) (e ∙ ap (λ (x : ℕ). 2 ^ x) n) in let y : ◌≡◌ {A = ℕ} 0 1 = cc in omega arith)
 
 pub trivial_cases : (k c : ℕ) → T (trivial k c) → (c + 2 ≡ 2 ^ k) ⊎ ((i : ℕ) × (i < k) × (c ≡ 2 ^ i))
 unfolding trivial
 trivial_cases k c h = go (eqb (c + 2) (2 ^ k)) refl h
   where
     go : (b : Bool) → eqb (c + 2) (2 ^ k) ≡ b → T (cond b true (pow_below k c)) → (c + 2 ≡ 2 ^ k) ⊎ ((i : ℕ) × (i < k) × (c ≡ 2 ^ i))
-    go true e g = inl (eqb_true (c + 2) (2 ^ k) e)
+    go true e g = inl (eqb-true (c + 2) (2 ^ k) e)
     go false e g = inr (pow_of k c g)
 
 pub trivial_rest : (k c : ℕ) → c + 2 ≡ 2 ^ k → T (trivial k c)
 unfolding trivial
-trivial_rest k c e = rw (eq_eqb (c + 2) (2 ^ k) e) tt
+trivial_rest k c e = rw (eq-eqb (c + 2) (2 ^ k) e) tt
 
 pub trivial_pow : (k c i : ℕ) → i < k → c ≡ 2 ^ i → T (trivial k c)
 unfolding trivial
@@ -103,7 +103,7 @@ pub single_trivial : (k c u : ℕ) → Split k c → u < k → Single k c u → 
 single_trivial k c u s l h = go (zero_or_one c u)
   where
     go : Out c u ⊎ In c u → T (trivial k c)
-    go (inr i) = trivial_pow k c u l (bit_ext k c (2 ^ u) s.below (pow_lt l) (λ j lj. at j lj (ℕ_discrete j u) (zero_or_one c j)))
+    go (inr i) = trivial_pow k c u l (bit_ext k c (2 ^ u) s.below (pow-lt l) (λ j lj. at j lj (ℕ_discrete j u) (zero_or_one c j)))
       where
         at : (j : ℕ) → j < k → Dec (j ≡ u) → Out c j ⊎ In c j → bit c j ≡ bit (2 ^ u) j
         at j lj (yes p) q = ap (bit c) p ∙ i ∙ sym (ap (bit (2 ^ u)) p ∙ pow_self u)

@@ -10,16 +10,16 @@ use lib.Dec.{T, ltb, eqb}
 use lib.ListN.{get_or}
 use lib.IntN.{ℤ, pos}
 use lib.Signed.{◌≤ℤ◌, le_z}
-use borrow.Author.Tests.{lt_ltb, le_ltb, eqb_true, eq_eqb, ne_eqb}
+use borrow.Author.Tests.{lt-ltb, le-ltb, eqb-true, eq-eqb, ne_eqb}
 use Rattle.statement.specs.Cluster.{Split}
 use Rattle.statement.proofs.Rule.{Laws, Distinct}
 use Rattle.statement.proofs.Instances.{less, rank, least, partner, code, place_by, placed, four_rule, table_at, table_rule}
 
 pub less_yes : (a b : ℕ) → a < b → less a b ≡ 1
-less_yes a b h = rw (lt_ltb a b h)
+less_yes a b h = rw (lt-ltb a b h)
 
 pub less_no : (a b : ℕ) → b ≤ a → less a b ≡ 0
-less_no a b h = rw (le_ltb a b h)
+less_no a b h = rw (le-ltb a b h)
 
 less_mono : (t a b : ℕ) → a < b → less t a ≤ less t b
 less_mono t a b h = go (dec_lt t a) (dec_lt t b)
@@ -59,15 +59,15 @@ which w x y z = go (ℕ_discrete w (least w x y z)) (ℕ_discrete x (least w x y
 module _ (f : ℕ → ℕ) (m w x y z : ℕ) where
   pub partner_w : w ≡ m → partner f m w x y z ≡ f x
   unfolding partner
-  partner_w p = rw (eq_eqb w m p)
+  partner_w p = rw (eq-eqb w m p)
 
   partner_x : w ≢ m → x ≡ m → partner f m w x y z ≡ f w
   unfolding partner
-  partner_x p q = rw (ne_eqb w m p, eq_eqb x m q)
+  partner_x p q = rw (ne_eqb w m p, eq-eqb x m q)
 
   partner_y : w ≢ m → x ≢ m → y ≡ m → partner f m w x y z ≡ f z
   unfolding partner
-  partner_y p q r = rw (ne_eqb w m p, ne_eqb x m q, eq_eqb y m r)
+  partner_y p q r = rw (ne_eqb w m p, ne_eqb x m q, eq-eqb y m r)
 
   partner_z : w ≢ m → x ≢ m → y ≢ m → partner f m w x y z ≡ f y
   unfolding partner
@@ -192,7 +192,7 @@ resolved : (tab : List ℕ) (p c : ℕ) → pos 1 ≤ℤ table_at tab p c → ge
 resolved tab p c h = go (eqb (get_or tab p 0) c) refl h.le
   where
     go : (s : Bool) → eqb (get_or tab p 0) c ≡ s → T (le_z (pos 1) (pos (cond s 1 0))) → get_or tab p 0 ≡ c
-    go true e g = eqb_true _ _ e
+    go true e g = eqb-true _ _ e
     go false e g = absurd g
 
 pub table_laws : (n : ℕ) (tab : List ℕ) → Laws (table_rule n tab)

@@ -10,7 +10,7 @@ use lib.Dec.{eqb, leb→le, le→leb}
 use lib.ListN.{get_or}
 use lib.IntN.{ℤ, pos, negsuc}
 use lib.Signed.{◌≤ℤ◌}
-use borrow.Author.Tests.{eqb_true, eqb_false}
+use borrow.Author.Tests.{eqb-true, eqb-false}
 use Rattle.statement.specs.Cluster.{bit}
 use Rattle.statement.specs.Table.{Pairing, stands, table_weight}
 use Rattle.statement.specs.Growing.{lesser, over_fours, above, repeat_trial, table_trial}
@@ -30,7 +30,7 @@ unasked f a c w x y z t l h = go (eqb (bit c x) (bit c a)) refl (eqb (bit c y) (
     go false ep q eq s es = l
     go true ep true eq s es = l
     go true ep false eq true es = l
-    go true ep false eq false es = h (record { x_side = eqb_true _ _ ep; y_side = eqb_false _ _ eq; z_side = eqb_false _ _ es })
+    go true ep false eq false es = h (record { x_side = eqb-true _ _ ep; y_side = eqb-false _ _ eq; z_side = eqb-false _ _ es })
 
 -- every asked four ax|yz of the split c of n taxa scores t or more. Growth has the newcomer for a; request §5 takes any taxon
 abbrev pub Anchored : Rule → ℕ → ℕ → ℕ → ℕ → Type 0
@@ -104,10 +104,10 @@ table_trial_law n bytes k a c w t pt = over_fours_law (table_rule n bytes) (tabl
       where
         go : (i : Bool) → eqb a x ≡ i → (j : Bool) → eqb y z ≡ j
             → (s ≤ cond (i || j) w (cond (stands bytes a x y z) table_weight 0)) ↔ Ok (table_rule n bytes) s k c a x y z
-        go true ei j ej = ((λ h d. absurd (d.wx (eqb_true a x ei))), (λ ok. l))
-        go false ei true ej = ((λ h d. absurd (d.yz (eqb_true y z ej))), (λ ok. l))
+        go true ei j ej = ((λ h d. absurd (d.wx (eqb-true a x ei))), (λ ok. l))
+        go false ei true ej = ((λ h d. absurd (d.yz (eqb-true y z ej))), (λ ok. l))
         go false ei false ej =
-            let d = parted_distinct p (eqb_false a x ei) (eqb_false y z ej) in
+            let d = parted_distinct p (eqb-false a x ei) (eqb-false y z ej) in
             let e = above_is s (pos (cond (stands bytes a x y z) table_weight 0)) ps in (
               (λ h _. subst (λ (v : ℤ). pos s ≤ℤ v) (sym (stands_one bytes a x y z d)) (e.0 h)),
               (λ ok. e.1 (subst (λ (v : ℤ). pos s ≤ℤ v) (stands_one bytes a x y z d) (ok d))),

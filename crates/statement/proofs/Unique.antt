@@ -8,7 +8,7 @@ use mathlib.Core.List.{List, [], ◌∷◌, map}
 use lib.Dec.{T, leb→le}
 use lib.IntN.{ℤ, pos}
 use lib.Signed.{le_z}
-use borrow.Author.Tests.{ne_eqb, eq_eqb}
+use borrow.Author.Tests.{ne_eqb, eq-eqb}
 use Rattle.statement.specs.Cluster.{Across}
 use Rattle.statement.specs.Matrix.{distance, Asked, LeastScore}
 use Rattle.statement.specs.Rows.{Row, row, clusters, Mem, weight_in, Ascending, FullAnswer}
@@ -20,7 +20,7 @@ rows_by_weight : (low high : ℕ) (all rows : List Row) → Ascending low high (
     → rows ≡ map (λ c. row c (weight_in all c)) (clusters rows)
 rows_by_weight low high all [] up same = refl
 rows_by_weight low high all (r ∷ rs) up same =
-    let own : r.weight ≡ weight_in all r.cluster = sym (same r.cluster up.0 ∙ rw (eq_eqb r.cluster r.cluster refl)) in
+    let own : r.weight ≡ weight_in all r.cluster = sym (same r.cluster up.0 ∙ rw (eq-eqb r.cluster r.cluster refl)) in
     ap₂ (λ (x : Row) (l : List Row). x ∷ l) (ap (row r.cluster) own)
     (rows_by_weight (suc r.cluster) high all rs up.1 (λ c l. same c (omega (arith, up.0)) ∙ rw (ne_eqb r.cluster c (λ e. omega arith))))
 

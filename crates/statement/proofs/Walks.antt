@@ -5,7 +5,7 @@ use native.Mathlib.Decide.{dec_lt}
 use mathlib.Core.Path.{◌≡◌, refl, sym, ◌∙◌, ap}
 use mathlib.Core.Bool.{true}
 use mathlib.Core.List.{List, map}
-use lib.ListN.{length, get_or, length_map, get_or_eq_default}
+use lib.ListN.{length, get_or, length-map, get_or-eq_default}
 use Rattle.statement.specs.Rows.{Row, clusters, Ascending}
 use Rattle.statement.specs.Tree.{numbers, root, cluster_at, strictly_in, link_of, home_of, tree_of, up, walk}
 use Rattle.statement.proofs.Listed.{asc_get_d, asc_mem, mem_get_d}
@@ -34,7 +34,7 @@ map_at f i (suc m) (suc j) other l = map_at f (suc i) m j other (omega arith) �
 -- the tree of a list has a vertex for each row and its root above them; a step up goes to the link
 pub root_is : (n : ℕ) (rows : List Row) → root (tree_of n rows) ≡ length rows
 unfolding tree_of
-root_is n rows = length_map (numbers 0 (length rows)) (link_of n rows) ∙ numbers_length 0 (length rows)
+root_is n rows = length-map (numbers 0 (length rows)) (link_of n rows) ∙ numbers_length 0 (length rows)
 
 pub link_is : (n : ℕ) (rows : List Row) (v other : ℕ) → v < length rows → get_or (tree_of n rows).links v other ≡ link_of n rows v
 unfolding tree_of
@@ -48,11 +48,11 @@ pub up_is : (n : ℕ) (rows : List Row) (v : ℕ) → v < length rows → up (tr
 up_is n rows v l = link_is n rows v (root (tree_of n rows)) l
 
 pub up_root : (n : ℕ) (rows : List Row) (v : ℕ) → length rows ≤ v → up (tree_of n rows) v ≡ length rows
-up_root n rows v l = get_or_eq_default (tree_of n rows).links (root (tree_of n rows)) (omega (arith, root_is n rows)) ∙ root_is n rows
+up_root n rows v l = get_or-eq_default (tree_of n rows).links (root (tree_of n rows)) (omega (arith, root_is n rows)) ∙ root_is n rows
 
 module _ (n : ℕ) (rows : List Row) (asc : Ascending 1 (2 ^ n) (clusters rows)) where
   count : length (clusters rows) ≡ length rows
-  count = length_map rows (λ r. r.cluster)
+  count = length-map rows (λ r. r.cluster)
 
   pub cluster_range : (i : ℕ) → i < length rows → (1 ≤ cluster_at rows i) × (cluster_at rows i < 2 ^ n)
   cluster_range i l = asc_mem 1 (2 ^ n) (clusters rows) asc (cluster_at rows i) (mem_get_d (clusters rows) i (omega (arith, count)))

@@ -9,10 +9,10 @@ use mathlib.Core.Logic.{inl, inr, ◌↔◌}
 use mathlib.Core.Bool.{true, false, not, ◌&&◌, ◌||◌}
 use mathlib.Core.List.{List, [], ◌∷◌}
 use lib.Dec.{ltb, leb, eqb}
-use lib.ListN.{length, take, get_or, length_map}
-use lib.Seq.{length_take_le, get_or_take}
+use lib.ListN.{length, take, get_or, length-map}
+use lib.Seq.{length-take-le, get_or-take}
 use lib.Pow.{pow_pos}
-use borrow.Author.Tests.{leb_false, lt_leb, not_true}
+use borrow.Author.Tests.{leb-false, lt-leb, not-true}
 use Rattle.statement.specs.declared.Splits.{Splits}
 use Rattle.statement.specs.Cluster.{bit, Split, Conflict}
 use Rattle.statement.specs.Lowest.{somewhere, nowhere}
@@ -27,7 +27,7 @@ pub record Front (m : ℕ) (xs ys : List ℕ) : Type 0 where
   pub at : (i : ℕ) → i < m → get_or xs i 0 ≡ get_or ys i 0
 
 front_take : (m : ℕ) (xs ys : List ℕ) → m ≤ length ys → xs ≡ take m ys → Front m xs ys
-front_take m xs ys h e = record { long = ap length e ∙ length_take_le m ys h; at = λ i l. ap (λ (zs : List ℕ). get_or zs i 0) e ∙ get_or_take m ys i 0 l }
+front_take m xs ys h e = record { long = ap length e ∙ length-take-le m ys h; at = λ i l. ap (λ (zs : List ℕ). get_or zs i 0) e ∙ get_or-take m ys i 0 l }
 
 zip_columns : (xs ys : List ℕ) → length xs ≡ length ys → (clusters (rows_from xs ys) ≡ xs) × (weights (rows_from xs ys) ≡ ys)
 zip_columns [] [] h = (refl, refl)
@@ -50,8 +50,8 @@ module _ (s : Splits) (room : Roomy s) where
   unfolding rows_of
   columns =
       zip_columns (take s.rows s.clusters) (take s.rows s.weights)
-      (length_take_le s.rows s.clusters (within s.clusters room.clusters)
-      ∙ sym (length_take_le s.rows s.weights (within s.weights room.weights)))
+      (length-take-le s.rows s.clusters (within s.clusters room.clusters)
+      ∙ sym (length-take-le s.rows s.weights (within s.weights room.weights)))
 
   -- the rows hold the fronts of the two arrays, and are as many as the list says
   pub clusters_front : Front s.rows (clusters (rows_of s)) s.clusters
@@ -61,7 +61,7 @@ module _ (s : Splits) (room : Roomy s) where
   weights_front = front_take s.rows (weights (rows_of s)) s.weights (within s.weights room.weights) columns.1
 
   pub rows_length : length (rows_of s) ≡ s.rows
-  rows_length = sym (length_map (rows_of s) (λ r. r.cluster)) ∙ clusters_front.long
+  rows_length = sym (length-map (rows_of s) (λ r. r.cluster)) ∙ clusters_front.long
 
 -- CONFLICT, as a test
 meets_is : (k a p b q : ℕ) → (meets k a p b q ≡ true) ↔ ((i : ℕ) × (i < k) × (bit a i ≡ p) × (bit b i ≡ q))
@@ -103,7 +103,7 @@ pub record Beside (k b c : ℕ) : Type 0 where
 
 pub beside_is : (k b c : ℕ) → (leb c b || conflicts k b c ≡ false) ↔ Beside k b c
 beside_is k b c =
-    let all = neither_is (leb_false c b, lt_leb c b) (fails_is (conflicts_is k b c)) in
+    let all = neither_is (leb-false c b, lt-leb c b) (fails_is (conflicts_is k b c)) in
     (λ e. record { above = (all.0 e).0; clean = (all.0 e).1 }, λ h. all.1 (h.above, h.clean))
 
 pub record GoodRow (most : ℕ) (s : Splits) (i : ℕ) : Type 0 where
@@ -210,7 +210,7 @@ pub well_formed_is : (most n : ℕ) (s : Splits) → length s.clusters ≡ 125 �
 unfolding well_formed
 well_formed_is most n s hc hw hn =
     let good : (nowhere (bad_row most s) s.rows ≡ true) ↔ ((i : ℕ) → i < s.rows → GoodRow most s i) =
-    Iff.trans (not_true (somewhere (bad_row most s) s.rows), ap not) (none_is (bad_row most s) s.rows (row_is most s)) in
+    Iff.trans (not-true (somewhere (bad_row most s) s.rows), ap not) (none_is (bad_row most s) s.rows (row_is most s)) in
     let all = both_is (both_is (both_is (most_is 1 s.taxa) (most_is s.taxa n)) (most_is s.rows (2 * s.taxa - 3))) good in
     let room : s.taxa ≤ n → s.rows ≤ 2 * s.taxa - 3 → Roomy s = λ t f. record { clusters = hc; weights = hw; rows = omega arith } in (
       λ e. let (((o, t), f), g) = all.0 e in rows_good most n s (room t f) g o t f,

@@ -1,9 +1,9 @@
 -- Laws of C(p,q), and that the places of the fours of n taxa are below C(n,4). Assumes nothing.
 use Prim.Native.Nat.{ℕ, zero, suc, ◌+◌, ◌*◌, ◌-◌, ◌/◌, ◌^◌, ◌≤◌, ◌<◌}
-use native.Mathlib.Numerals.{add_one}
+use native.Mathlib.Numerals.{add-one}
 use native.Mathlib.Omega.{arith}
 use native.Mathlib.Decide.{dec_lt, le_ind}
-use native.Mathlib.Nat.{zero_mul, add_mul, mul_add, suc_mul, mul_suc, mul_le_mul, div_eq_of_eq_mul_right, pow_suc, suc_sub_suc, pow_le_pow_right, le_trans}
+use native.Mathlib.Nat.{zero-mul, add-mul, mul-add, suc-mul, mul-suc, mul-le-mul, div-eq_of_eq-mul_right, pow-suc, suc-sub-suc, pow-le-pow_right, le_trans}
 use mathlib.Core.Path.{◌≡◌, refl, sym, ap}
 use Rattle.statement.specs.Table.{choose, place}
 
@@ -17,8 +17,8 @@ one_more : (x p q : ℕ) → (p < suc q → x ≡ 0) → x + x * (p - suc q) ≡
 one_more x p q none = go (dec_lt q p)
   where
     go : Dec (q < p) → x + x * (p - suc q) ≡ x * (p - q)
-    go (yes h) = let d : p - q ≡ suc (p - suc q) = omega arith in rw d (omega (arith, mul_suc x (p - suc q)))
-    go (no h) = rw (none (omega arith)) (omega (arith, zero_mul (p - suc q), zero_mul (p - q)))
+    go (yes h) = let d : p - q ≡ suc (p - suc q) = omega arith in rw d (omega (arith, mul-suc x (p - suc q)))
+    go (no h) = rw (none (omega arith)) (omega (arith, zero-mul (p - suc q), zero-mul (p - q)))
 
 -- (q + 1) C(p,q+1) = C(p,q) (p - q)
 pub absorb : (p q : ℕ) → suc q * choose p (suc q) ≡ choose p q * (p - q)
@@ -34,27 +34,27 @@ absorb (suc p) (suc q) =
       arith,
       absorb p q,
       absorb p (suc q),
-      mul_add (suc (suc q)) x y,
-      add_mul (choose p q) x (p - q),
-      suc_mul (suc q) x,
+      mul-add (suc (suc q)) x y,
+      add-mul (choose p q) x (p - q),
+      suc-mul (suc q) x,
       one_more x p q (choose_none p (suc q)),
     ) in
-    rw suc_sub_suc e
+    rw suc-sub-suc e
 
 -- C(p,q+1) from C(p,q), as a program works it out
 pub choose_next : (p q : ℕ) → choose p q * (p - q) / suc q ≡ choose p (suc q)
-choose_next p q = div_eq_of_eq_mul_right (omega arith) (sym (absorb p q))
+choose_next p q = div-eq_of_eq-mul_right (omega arith) (sym (absorb p q))
 
 choose_most : (p q : ℕ) → p ≤ 64 → choose p q ≤ 64 ^ q
 unfolding choose
 choose_most p zero h = omega arith
 choose_most p (suc q) h =
-    omega (arith, absorb p q, suc_mul q (choose p (suc q)), mul_le_mul (choose_most p q h) (let d : p - q ≤ 64 = omega arith in d), pow_suc 64 q)
+    omega (arith, absorb p q, suc-mul q (choose p (suc q)), mul-le-mul (choose_most p q h) (let d : p - q ≤ 64 = omega arith in d), pow-suc 64 q)
 
 -- what it divides fits
 pub choose_fits : (p q : ℕ) → p ≤ 64 → q ≤ 4 → choose p q * (p - q) ≤ 64 ^ 5
 choose_fits p q h l =
-    let d : p - q ≤ 64 = omega arith in mul_le_mul (le_trans (choose_most p q h) (pow_le_pow_right (omega arith) l)) d
+    let d : p - q ≤ 64 = omega arith in mul-le-mul (le_trans (choose_most p q h) (pow-le-pow_right (omega arith) l)) d
 
 choose_grows : (p q : ℕ) → choose p q ≤ choose (suc p) q
 unfolding choose
@@ -79,7 +79,7 @@ place_below a b c d n ab bc cd dn =
 
 pub choose_more : (p q : ℕ) → choose (p + 1) (suc q) ≡ choose p q + choose p (suc q)
 unfolding choose
-choose_more p q = rw add_one
+choose_more p q = rw add-one
 
 -- THE PLACES OF PAIRS p<q, at C(q,2) + p
 pub pair_under : (p q m : ℕ) → p < q → q < m → choose q 2 + p < choose m 2

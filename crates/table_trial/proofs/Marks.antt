@@ -8,9 +8,9 @@ use mathlib.Core.Bool.{Bool, true, false, cond, ◌&&◌}
 use mathlib.Core.List.{List}
 use lib.Bits.{bit_or, or_shr, or_step}
 use lib.Dec.{eqb, ltb}
-use lib.ListN.{length, get_or, set, length_set}
-use lib.Seq.{get_or_set_same, get_or_set_other}
-use borrow.Author.Tests.{eq_eqb, ne_eqb, lt_ltb, le_ltb}
+use lib.ListN.{length, get_or, set, length-set}
+use lib.Seq.{get_or-set_same, get_or-set_other}
+use borrow.Author.Tests.{eq-eqb, ne_eqb, lt-ltb, le-ltb}
 use Rattle.statement.specs.Cluster.{bit}
 use Rattle.statement.specs.Table.{choose, place}
 use Rattle.statement.proofs.Bits.{bit_lt, bit_none}
@@ -28,7 +28,7 @@ bit_or_law a b i =
 
 put_same : (sets : List ℕ) (p u : ℕ) → p < length sets → bit (get_or (put sets p u) p 0) u ≡ 1
 put_same sets p u room =
-    ap (λ (n : ℕ). bit n u) (get_or_set_same sets p (bit_or (get_or sets p 0) (2 ^ u)) 0 room)
+    ap (λ (n : ℕ). bit n u) (get_or-set_same sets p (bit_or (get_or sets p 0) (2 ^ u)) 0 room)
     ∙ bit_or_law (get_or sets p 0) (2 ^ u) u
     ∙ omega (arith, pow_self u, bit_lt (get_or sets p 0) u)
 
@@ -36,10 +36,10 @@ put_other : (sets : List ℕ) (p u p' u' : ℕ) → p < length sets → (p' ≡ 
 put_other sets p u p' u' room d = go (ℕ_discrete p' p)
   where
     go : Dec (p' ≡ p) → bit (get_or (put sets p u) p' 0) u' ≡ bit (get_or sets p' 0) u'
-    go (no n) = ap (λ (v : ℕ). bit v u') (get_or_set_other sets p p' (bit_or (get_or sets p 0) (2 ^ u)) 0 n)
+    go (no n) = ap (λ (v : ℕ). bit v u') (get_or-set_other sets p p' (bit_or (get_or sets p 0) (2 ^ u)) 0 n)
     go (yes e) =
         subst (λ (q : ℕ). bit (get_or (put sets p u) q 0) u' ≡ bit (get_or sets q 0) u') (sym e)
-        (ap (λ (n : ℕ). bit n u') (get_or_set_same sets p (bit_or (get_or sets p 0) (2 ^ u)) 0 room)
+        (ap (λ (n : ℕ). bit n u') (get_or-set_same sets p (bit_or (get_or sets p 0) (2 ^ u)) 0 room)
         ∙ bit_or_law (get_or sets p 0) (2 ^ u) u'
         ∙ omega (arith, pow_other u u' (d e), bit_lt (get_or sets p 0) u'))
 
@@ -47,15 +47,15 @@ put_other sets p u p' u' room d = go (ℕ_discrete p' p)
 module _ (a b c : ℕ) (sets : List ℕ) where
   pub marked_one : (v : ℕ) → v ≡ 1 → marked v a b c sets ≡ put sets (choose b 2 + a) c
   unfolding marked
-  marked_one v e = rw (eq_eqb v 1 e)
+  marked_one v e = rw (eq-eqb v 1 e)
 
   pub marked_two : (v : ℕ) → v ≡ 2 → marked v a b c sets ≡ put sets (choose c 2 + a) b
   unfolding marked
-  marked_two v e = rw (ne_eqb v 1 (λ f. absurd (omega arith)), eq_eqb v 2 e)
+  marked_two v e = rw (ne_eqb v 1 (λ f. absurd (omega arith)), eq-eqb v 2 e)
 
   pub marked_three : (v : ℕ) → v ≡ 3 → marked v a b c sets ≡ put sets (choose c 2 + b) a
   unfolding marked
-  marked_three v e = rw (ne_eqb v 1 (λ f. absurd (omega arith)), ne_eqb v 2 (λ f. absurd (omega arith)), eq_eqb v 3 e)
+  marked_three v e = rw (ne_eqb v 1 (λ f. absurd (omega arith)), ne_eqb v 2 (λ f. absurd (omega arith)), eq-eqb v 3 e)
 
   pub marked_none : (v : ℕ) → v ≢ 1 → v ≢ 2 → v ≢ 3 → marked v a b c sets ≡ sets
   unfolding marked
@@ -77,9 +77,9 @@ module _ (a b c : ℕ) (ab : a < b) (bc : b < c) (top : c < 64) (sets : List ℕ
   marked_size v = go (eqb v 1) (eqb v 2) (eqb v 3)
     where
       go : (p q r : Bool) → length (cond p (put sets (choose b 2 + a) c) (cond q (put sets (choose c 2 + a) b) (cond r (put sets (choose c 2 + b) a) sets))) ≡ 2016
-      go true q r = simp length_set size
-      go false true r = simp length_set size
-      go false false true = simp length_set size
+      go true q r = simp length-set size
+      go false true r = simp length-set size
+      go false false true = simp length-set size
       go false false false = size
 
   -- its three sets
@@ -90,7 +90,7 @@ module _ (a b c : ℕ) (ab : a < b) (bc : b < c) (top : c < 64) (sets : List ℕ
       go (yes e) _ _ =
           rw (marked_one a b c sets v e)
           (record {
-            one = put_same sets (choose b 2 + a) c room_one ∙ rw (eq_eqb v 1 e);
+            one = put_same sets (choose b 2 + a) c room_one ∙ rw (eq-eqb v 1 e);
             two = put_other sets (choose b 2 + a) c (choose c 2 + a) b room_one (λ p q. omega arith) ∙ t.two ∙ rw (ne_eqb v 2 (λ f. absurd (omega arith)));
             three = put_other sets (choose b 2 + a) c (choose c 2 + b) a room_one (λ p q. omega arith) ∙ t.three ∙ rw (ne_eqb v 3 (λ f. absurd (omega arith)));
           })
@@ -98,7 +98,7 @@ module _ (a b c : ℕ) (ab : a < b) (bc : b < c) (top : c < 64) (sets : List ℕ
           rw (marked_two a b c sets v e)
           (record {
             one = put_other sets (choose c 2 + a) b (choose b 2 + a) c room_two (λ p q. omega arith) ∙ t.one ∙ rw (ne_eqb v 1 n1);
-            two = put_same sets (choose c 2 + a) b room_two ∙ rw (eq_eqb v 2 e);
+            two = put_same sets (choose c 2 + a) b room_two ∙ rw (eq-eqb v 2 e);
             three = put_other sets (choose c 2 + a) b (choose c 2 + b) a room_two (λ p q. omega arith) ∙ t.three ∙ rw (ne_eqb v 3 (λ f. absurd (omega arith)));
           })
       go (no n1) (no n2) (yes e) =
@@ -106,7 +106,7 @@ module _ (a b c : ℕ) (ab : a < b) (bc : b < c) (top : c < 64) (sets : List ℕ
           (record {
             one = put_other sets (choose c 2 + b) a (choose b 2 + a) c room_three (λ p q. omega arith) ∙ t.one ∙ rw (ne_eqb v 1 n1);
             two = put_other sets (choose c 2 + b) a (choose c 2 + a) b room_three (λ p q. omega arith) ∙ t.two ∙ rw (ne_eqb v 2 n2);
-            three = put_same sets (choose c 2 + b) a room_three ∙ rw (eq_eqb v 3 e);
+            three = put_same sets (choose c 2 + b) a room_three ∙ rw (eq-eqb v 3 e);
           })
       go (no n1) (no n2) (no n3) =
           rw (marked_none a b c sets v n1 n2 n3)
@@ -136,15 +136,15 @@ ltb_next : (m k : ℕ) → m ≢ k → ltb m (k + 1) ≡ ltb m k
 ltb_next m k d = go (dec_lt m k)
   where
     go : Dec (m < k) → ltb m (k + 1) ≡ ltb m k
-    go (yes h) = lt_ltb m (k + 1) (omega arith) ∙ sym (lt_ltb m k h)
-    go (no h) = le_ltb m (k + 1) (omega arith) ∙ sym (le_ltb m k (omega arith))
+    go (yes h) = lt-ltb m (k + 1) (omega arith) ∙ sym (lt-ltb m k h)
+    go (no h) = le-ltb m (k + 1) (omega arith) ∙ sym (le-ltb m k (omega arith))
 
 ltb_jump : (m k h : ℕ) → k ≤ h → (k ≤ m → h ≤ m) → ltb m h ≡ ltb m k
 ltb_jump m k h l f = go (dec_lt m k)
   where
     go : Dec (m < k) → ltb m h ≡ ltb m k
-    go (yes q) = lt_ltb m h (omega arith) ∙ sym (lt_ltb m k q)
-    go (no q) = le_ltb m h (f (omega arith)) ∙ sym (le_ltb m k (omega arith))
+    go (yes q) = lt-ltb m h (omega arith) ∙ sym (lt-ltb m k q)
+    go (no q) = le-ltb m h (f (omega arith)) ∙ sym (le-ltb m k (omega arith))
 
 module _ (bytes : List ℕ) (x : ℕ) (few : x ≤ 64) where
   pub filled_none : (sets : List ℕ) → length sets ≡ 2016 → ((p : ℕ) → p < 2016 → get_or sets p 0 ≡ 0) → Filled bytes x (2 * 4096 + 64) sets
@@ -152,7 +152,7 @@ module _ (bytes : List ℕ) (x : ℕ) (few : x ≤ 64) where
     where
       told : (i j l : ℕ) → i < j → j < l → l < x → Told (get_or bytes (place i j l x) 0) i j l (ltb (l * 4096 + j * 64 + i) (2 * 4096 + 64)) sets
       told i j l ij jl lx =
-          rw (le_ltb (l * 4096 + j * 64 + i) (2 * 4096 + 64) (omega arith))
+          rw (le-ltb (l * 4096 + j * 64 + i) (2 * 4096 + 64) (omega arith))
           (record {
             one = zero_at_law (choose j 2 + i) l (pair_below i j ij (omega arith));
             two = zero_at_law (choose l 2 + i) j (pair_below i l (omega arith) (omega arith));
@@ -180,11 +180,11 @@ module _ (bytes : List ℕ) (x : ℕ) (few : x ≤ 64) where
           subst (λ (l : ℕ). Told (get_or bytes (place i j l x) 0) i j l (ltb (l * 4096 + j * 64 + i) (c * 4096 + b * 64 + (a + 1))) (marked v a b c sets)) el
           (subst (λ (j : ℕ). Told (get_or bytes (place i j c x) 0) i j c (ltb (c * 4096 + j * 64 + i) (c * 4096 + b * 64 + (a + 1))) (marked v a b c sets)) ej
           (subst (λ (i : ℕ). Told (get_or bytes (place i b c x) 0) i b c (ltb (c * 4096 + b * 64 + i) (c * 4096 + b * 64 + (a + 1))) (marked v a b c sets)) ei
-          (rw (lt_ltb (c * 4096 + b * 64 + a) (c * 4096 + b * 64 + (a + 1)) (omega arith))
+          (rw (lt-ltb (c * 4096 + b * 64 + a) (c * 4096 + b * 64 + (a + 1)) (omega arith))
           (subst (λ (t : ℕ). Told t a b c true (marked v a b c sets)) ev
           (told_now a b c ab bc (omega arith) sets f.size v
           (subst (λ (t : ℕ). Told t a b c false sets) (sym ev)
-          (rw (le_ltb (c * 4096 + b * 64 + a) (c * 4096 + b * 64 + a) (omega arith)) at (f.told a b c ab bc cx))))))))
+          (rw (le-ltb (c * 4096 + b * 64 + a) (c * 4096 + b * 64 + a) (omega arith)) at (f.told a b c ab bc cx))))))))
 
   -- no four lies between the end of a row and the next
   filled_jump : (k h : ℕ) (sets : List ℕ) → k ≤ h → ((i j l : ℕ) → i < j → j < l → l < x → k ≤ l * 4096 + j * 64 + i → h ≤ l * 4096 + j * 64 + i)
@@ -200,4 +200,4 @@ module _ (bytes : List ℕ) (x : ℕ) (few : x ≤ 64) where
 
   pub prepared : (c : ℕ) (sets : List ℕ) → x ≤ c → Filled bytes x (c * 4096 + 64) sets → Prepared bytes x sets
   prepared c sets xc f i j l ij jl lx =
-      rw (lt_ltb (l * 4096 + j * 64 + i) (c * 4096 + 64) (omega arith)) at (f.told i j l ij jl lx)
+      rw (lt-ltb (l * 4096 + j * 64 + i) (c * 4096 + 64) (omega arith)) at (f.told i j l ij jl lx)

@@ -11,7 +11,7 @@ use lib.Dec.{eqb, leb→le, le→leb}
 use lib.ListN.{get_or}
 use lib.IntN.{ℤ, pos}
 use lib.Signed.{◌≤ℤ◌}
-use borrow.Author.Tests.{eq_eqb, eqb_true, lt_ltb, le_ltb}
+use borrow.Author.Tests.{eq-eqb, eqb-true, lt-ltb, le-ltb}
 use Rattle.statement.specs.Cluster.{bit, In}
 use Rattle.statement.specs.Table.{choose, place, ordered, lower_first, stands, table_weight}
 use Rattle.statement.specs.Growing.{table_trial}
@@ -33,7 +33,7 @@ module _ (bytes : List ℕ) (x u p q : ℕ) (pq : p < q) (qx : q < x) where
       let e2 : max x u ≡ x = omega arith in
       let e3 : min p q ≡ p = omega arith in
       let e4 : max p q ≡ q = omega arith in
-      rw (e1, e2, e3, e4, lt_ltb u p h, le_ltb x p (omega arith), le_ltb x q (omega arith))
+      rw (e1, e2, e3, e4, lt-ltb u p h, le-ltb x p (omega arith), le-ltb x q (omega arith))
 
   stands_mid : p < u → u < q → stands bytes x u p q ≡ eqb (get_or bytes (place p u q x) 0) 2
   unfolding lower_first ordered
@@ -42,7 +42,7 @@ module _ (bytes : List ℕ) (x u p q : ℕ) (pq : p < q) (qx : q < x) where
       let e2 : max x u ≡ x = omega arith in
       let e3 : min p q ≡ p = omega arith in
       let e4 : max p q ≡ q = omega arith in
-      rw (e1, e2, e3, e4, le_ltb u p (omega arith), le_ltb q u (omega arith), lt_ltb q x qx)
+      rw (e1, e2, e3, e4, le-ltb u p (omega arith), le-ltb q u (omega arith), lt-ltb q x qx)
 
   stands_high : q < u → u < x → stands bytes x u p q ≡ eqb (get_or bytes (place p q u x) 0) 1
   unfolding lower_first ordered
@@ -51,7 +51,7 @@ module _ (bytes : List ℕ) (x u p q : ℕ) (pq : p < q) (qx : q < x) where
       let e2 : max x u ≡ x = omega arith in
       let e3 : min p q ≡ p = omega arith in
       let e4 : max p q ≡ q = omega arith in
-      rw (e1, e2, e3, e4, le_ltb u p (omega arith), lt_ltb q u h)
+      rw (e1, e2, e3, e4, le-ltb u p (omega arith), lt-ltb q u h)
 
   -- the set of p and q says so
   set_bit : (sets : List ℕ) → Prepared bytes x sets → u < x → u ≢ p → u ≢ q → bit (get_or sets (choose q 2 + p) 0) u ≡ cond (stands bytes x u p q) 1 0
@@ -100,10 +100,10 @@ module _ (n : ℕ) (bytes : List ℕ) (x c w side : ℕ) (sets taxa : List ℕ) 
       (subst (λ (v : ℤ). pos t ≤ℤ v) (stands_one bytes x u p q distinct) (h u p q (omega arith) (omega arith) (omega arith) parted distinct))
 
   on_own : (u : ℕ) → u < x → In side u → bit c u ≡ bit c x
-  on_own u l h = eqb_true (bit c u) (bit c x) (one_or_none (eqb (bit c u) (bit c x)) (sym (own.has u l) ∙ h))
+  on_own u l h = eqb-true (bit c u) (bit c x) (one_or_none (eqb (bit c u) (bit c x)) (sym (own.has u l) ∙ h))
 
   in_own : (u : ℕ) → u < x → bit c u ≡ bit c x → In side u
-  in_own u l e = own.has u l ∙ rw (eq_eqb (bit c u) (bit c x) e)
+  in_own u l e = own.has u l ∙ rw (eq-eqb (bit c u) (bit c x) e)
 
   anchored_holds : (t : ℕ) → 1 ≤ t → Anchored (table_rule n bytes) t (suc x) x c → RowsHold side count taxa sets
   anchored_holds t pt h i li j lj =

@@ -3,8 +3,8 @@ use Prim.Native.Nat.{ℕ, zero, suc, ◌+◌, ◌*◌, ◌-◌, ◌≤◌, ◌<�
 use native.Mathlib.Omega.{arith}
 use mathlib.Core.Path.{◌≡◌, refl, sym, ◌∙◌, ap}
 use mathlib.Core.List.{List, [], ◌∷◌}
-use lib.ListN.{length, get_or, take, drop, length_drop, get_or_eq_default}
-use lib.Seq.{take_all, length_take_le, get_or_take, get_or_drop}
+use lib.ListN.{length, get_or, take, drop, length-drop, get_or-eq_default}
+use lib.Seq.{take_all, length-take-le, get_or-take, get_or-drop}
 use Rattle.statement.specs.Tree.{root, up}
 use Rattle.statement.specs.Bytes.{from_bytes, tree_in, tree_length}
 use Rattle.tree_body.specs.Words.{word_at}
@@ -20,7 +20,7 @@ pub part_of : (a k : ℕ) (xs : List ℕ) → take (a + k - a) (drop a xs) ≡ t
 part_of a k xs = let e : a + k - a ≡ k = omega arith in ap (λ (j : ℕ). take j (drop a xs)) e
 
 pub rest_of : (a : ℕ) (xs : List ℕ) → take (length xs - a) (drop a xs) ≡ drop a xs
-rest_of a xs = take_all (length xs - a) (drop a xs) (omega (arith, length_drop a xs))
+rest_of a xs = take_all (length xs - a) (drop a xs) (omega (arith, length-drop a xs))
 
 -- the words of a list of bytes
 past_word : (a b c d : ℕ) (rest : List ℕ) (p q : ℕ) → q ≡ 4 + p → get_or (a ∷ b ∷ c ∷ d ∷ rest) q 0 ≡ get_or rest p 0
@@ -47,25 +47,25 @@ word_at_law (a ∷ b ∷ c ∷ d ∷ rest) (suc v) l =
 module _ (n : ℕ) (body : List ℕ) (sized : length body ≡ tree_length n (get_or body 0 0)) where
   pub root_is : root (tree_in n body) ≡ get_or body 0 0
   unfolding tree_in
-  root_is = length_take_le (get_or body 0 0) (drop 1 body) (omega (arith, length_drop 1 body))
+  root_is = length-take-le (get_or body 0 0) (drop 1 body) (omega (arith, length-drop 1 body))
 
   pub link_at : (v : ℕ) → v < get_or body 0 0 → up (tree_in n body) v ≡ get_or body (1 + v) 0
   unfolding tree_in
   link_at v l =
-      get_or_take (get_or body 0 0) (drop 1 body) v (root (tree_in n body)) l
-      ∙ get_or_drop 1 body v (root (tree_in n body)) ∙ within_list body (1 + v) (root (tree_in n body)) 0 (omega arith)
+      get_or-take (get_or body 0 0) (drop 1 body) v (root (tree_in n body)) l
+      ∙ get_or-drop 1 body v (root (tree_in n body)) ∙ within_list body (1 + v) (root (tree_in n body)) 0 (omega arith)
 
   pub above_root : (v : ℕ) → get_or body 0 0 ≤ v → up (tree_in n body) v ≡ get_or body 0 0
-  above_root v l = get_or_eq_default (tree_in n body).links (root (tree_in n body)) (omega (arith, root_is)) ∙ root_is
+  above_root v l = get_or-eq_default (tree_in n body).links (root (tree_in n body)) (omega (arith, root_is)) ∙ root_is
 
   pub home_at : (i : ℕ) → i < n → get_or (tree_in n body).homes i 0 ≡ get_or body (1 + get_or body 0 0 + i) 0
   unfolding tree_in
-  home_at i l = get_or_take n (drop (1 + get_or body 0 0) body) i 0 l ∙ get_or_drop (1 + get_or body 0 0) body i 0
+  home_at i l = get_or-take n (drop (1 + get_or body 0 0) body) i 0 l ∙ get_or-drop (1 + get_or body 0 0) body i 0
 
   pub weight_at_law : (v : ℕ) → v < get_or body 0 0 → get_or (tree_in n body).weights v 0 ≡ word_at body (1 + get_or body 0 0 + n + 4 * v)
   unfolding tree_in
   weight_at_law v l =
       let p = 1 + get_or body 0 0 + n in
-      word_at_law (drop p body) v (omega (arith, length_drop p body))
+      word_at_law (drop p body) v (omega (arith, length-drop p body))
       ∙ same_word (drop p body) body (4 * v) (p + 4 * v)
-      (λ i. get_or_drop p body (4 * v + i) 0 ∙ ap (λ (k : ℕ). get_or body k 0) (omega arith))
+      (λ i. get_or-drop p body (4 * v + i) 0 ∙ ap (λ (k : ℕ). get_or body k 0) (omega arith))

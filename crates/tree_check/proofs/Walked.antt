@@ -1,6 +1,6 @@
 -- Walks, a step at a time, and that only the links matter to them. Assumes nothing.
 use Prim.Native.Nat.{ℕ, zero, suc, ◌+◌}
-use native.Mathlib.Numerals.{add_one}
+use native.Mathlib.Numerals.{add-one}
 use mathlib.Core.Path.{◌≡◌, refl, sym, ◌∙◌, ap}
 use mathlib.Core.Bool.{not}
 use mathlib.Core.List.{List, []}
@@ -19,7 +19,7 @@ walk_last t zero v = refl
 walk_last t (suc s) v = walk_last t s (up t v)
 
 pub walk_next : (t : Tree) (s v x y : ℕ) → x ≡ walk t s v → y ≡ up t x → y ≡ walk t (s + 1) v
-walk_next t s v x y e q = q ∙ ap (up t) e ∙ sym (walk_last t s v) ∙ ap (λ (k : ℕ). walk t k v) (sym (add_one s))
+walk_next t s v x y e q = q ∙ ap (up t) e ∙ sym (walk_last t s v) ∙ ap (λ (k : ℕ). walk t k v) (sym (add-one s))
 
 module _ (t : Tree) (homes : List ℕ) where
   same_walk : (s v : ℕ) → walk t s v ≡ walk (placed t.links homes) s v

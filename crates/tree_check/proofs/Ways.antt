@@ -7,7 +7,7 @@ use mathlib.Core.Bool.{Bool, true, false, not, ◌||◌}
 use mathlib.Core.List.{List, [], ◌∷◌}
 use lib.Dec.{ltb, eqb}
 use lib.ListN.{length, get_or, take, drop}
-use borrow.Author.Tests.{lt_ltb, le_ltb, eq_eqb, ne_eqb}
+use borrow.Author.Tests.{lt-ltb, le-ltb, eq-eqb, ne_eqb}
 use Rattle.statement.specs.declared.Outcome.TheVariants.{Done, Refused}
 use Rattle.statement.specs.Lowest.{lowest, somewhere}
 use Rattle.statement.specs.Tree.{root}
@@ -26,10 +26,10 @@ above n body m = somewhere (λ i. ltb m (get_or body (1 + i) 0)) (m + n)
 -- 1 AND 2
 module _ (n : ℕ) (body : List ℕ) where
   pub too_few : n < 2 → Refused 1 0 ≡ outcome_of (first_checks n body)
-  too_few h = sym (given_refused (first_checks n body) 1 0 (inl (single_fails 1 _ (rw (lt_ltb n 2 h)))))
+  too_few h = sym (given_refused (first_checks n body) 1 0 (inl (single_fails 1 _ (rw (lt-ltb n 2 h)))))
 
   pub too_many : 2 ≤ n → 64 < n → Refused 1 0 ≡ outcome_of (first_checks n body)
-  too_many h l = sym (given_refused (first_checks n body) 1 0 (inl (single_fails 1 _ (rw (le_ltb n 2 h, lt_ltb 64 n l)))))
+  too_many h l = sym (given_refused (first_checks n body) 1 0 (inl (single_fails 1 _ (rw (le-ltb n 2 h, lt-ltb 64 n l)))))
 
   pub wrong_length : (2 ≤ n) × (n ≤ 64) → false ≡ tree_fits n (length body) → Refused 2 0 ≡ outcome_of (first_checks n body)
   wrong_length taxa e = sym (given_refused (first_checks n body) 2 0 (inr ((taxa_passed n).1 taxa, inl (single_fails 2 _ (ap not (sym e))))))
@@ -59,7 +59,7 @@ module _ (n : ℕ) (body : List ℕ) (m : ℕ) (f : Fitting n body m) where
   wrong_count d = shape_bad (shape (ne_eqb _ _ d) refl)
 
   pub wrong_vertex : length body ≡ tree_length n m → true ≡ above n body m → Refused 9 0 ≡ outcome_of (first_checks n body)
-  wrong_vertex e d = shape_bad (shape (eq_eqb _ _ e) (sym d))
+  wrong_vertex e d = shape_bad (shape (eq-eqb _ _ e) (sym d))
 
 -- and m agrees with the length, and no link or home is above it
 pub record Shaped (n : ℕ) (body : List ℕ) (m : ℕ) : Type 0 where
@@ -72,7 +72,7 @@ module _ (n : ℕ) (body : List ℕ) (m : ℕ) (s : Shaped n body m) where
   is = s.fitting.first
 
   shape_good : Passed (tree_off n body)
-  shape_good i l = shape n body m s.fitting (eq_eqb _ _ s.sized) (sym s.low)
+  shape_good i l = shape n body m s.fitting (eq-eqb _ _ s.sized) (sym s.low)
 
   long : length body ≡ tree_length n (get_or body 0 0)
   long = s.sized ∙ ap (tree_length n) is
@@ -130,4 +130,4 @@ module _ (n : ℕ) (body : List ℕ) (m : ℕ) (s : Shaped n body m) where
     pub none_wrong : h ≡ m → Done ≡ outcome_of (first_checks n body)
     none_wrong d =
         sym (passed_done (first_checks n body)
-        (taxa_good n body m s.fitting, (length_good n body m s.fitting, (shape_good, (weighed, (walked, ((λ i l. home_is (eq_eqb _ _ d)), tt)))))))
+        (taxa_good n body m s.fitting, (length_good n body m s.fitting, (shape_good, (weighed, (walked, ((λ i l. home_is (eq-eqb _ _ d)), tt)))))))

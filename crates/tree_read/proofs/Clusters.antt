@@ -1,7 +1,7 @@
 -- The clusters of an accepted tree are splits, each two of them different and without conflict. Document 01, "The tree". Assumes nothing.
 use Prim.Native.Nat.{ℕ, ◌+◌, ◌-◌, ◌≤◌, ◌<◌}
 use native.Mathlib.Omega.{arith}
-use native.Mathlib.Nat.{pos_of_ne_zero}
+use native.Mathlib.Nat.{pos_of_ne-zero}
 use native.Mathlib.Decide.{dec_lt}
 use mathlib.Core.Path.{◌≡◌, refl, sym, ◌∙◌, ap}
 use mathlib.Core.Logic.Iff
@@ -55,7 +55,7 @@ module _ (n : ℕ) (t : Tree) (a : AcceptedTree n t) where
   unfolding cluster_of
   cluster_split v l =
       record {
-        some = pos_of_ne_zero (a.some v l);
+        some = pos_of_ne-zero (a.some v l);
         below = group_below (λ i. on_walk t (home_in t i) v) n;
         free = free (zero_or_one (cluster_of t v n) 0);
       }

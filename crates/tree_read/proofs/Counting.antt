@@ -1,7 +1,7 @@
 -- Tests counted as 0 and 1 over the numbers below n. Assumes nothing.
 use Prim.Native.Nat.{ℕ, zero, suc, ◌+◌, ◌≤◌, ◌<◌}
 use native.Mathlib.Omega.{arith}
-use native.Mathlib.Nat.{eq_or_lt_of_le}
+use native.Mathlib.Nat.{eq-or-lt_of_le}
 use native.Mathlib.Decide.{dec_lt, ℕ_discrete}
 use mathlib.Core.Path.{◌≡◌, subst}
 use mathlib.Core.Logic.{◌⊎◌, inl, inr, ⊎_elim}
@@ -29,7 +29,7 @@ agree_or_more f g (suc n) h = go (ℕ_discrete (f n) (g n)) (agree_or_more f g n
     go : Dec (f n ≡ g n) → ((v : ℕ) → v < n → f v ≡ g v) ⊎ (tally f n < tally g n)
         → ((v : ℕ) → v < suc n → f v ≡ g v) ⊎ (tally f n + f n < tally g n + g n)
     go (yes e) (inl all) = inl (upto (λ (v : ℕ). f v ≡ g v) n all e)
-    go (no e) (inl all) = inr (⊎_elim (λ q. absurd (e q)) (λ l. omega (arith, tally_le f g n h)) (eq_or_lt_of_le (h n)))
+    go (no e) (inl all) = inr (⊎_elim (λ q. absurd (e q)) (λ l. omega (arith, tally_le f g n h)) (eq-or-lt_of_le (h n)))
     go d (inr more) = inr (omega (arith, h n))
 
 -- as many as there are places: all of them

@@ -2,16 +2,16 @@
 use Prim.Native.Nat.{ℕ, ◌+◌, ◌^◌, ◌≤◌, ◌<◌}
 use native.Mathlib.Omega.{arith}
 use native.Mathlib.Decide.{ℕ_discrete}
-use native.Mathlib.Numerals.{add_one}
+use native.Mathlib.Numerals.{add-one}
 use mathlib.Core.Path.{◌≡◌, refl, sym, ◌∙◌, ap}
 use mathlib.Core.Logic.{◌≢◌}
 use mathlib.Core.Bool.{Bool, true, false, cond}
 use mathlib.Core.List.{List, []}
 use lib.Dec.{eqb}
-use lib.ListN.{length, get_or, set, length_set}
-use lib.Seq.{get_or_set_same, get_or_set_other}
+use lib.ListN.{length, get_or, set, length-set}
+use lib.Seq.{get_or-set_same, get_or-set_other}
 use borrow.Author.Count.{below_more}
-use borrow.Author.Tests.{eq_eqb, ne_eqb}
+use borrow.Author.Tests.{eq-eqb, ne_eqb}
 use Rattle.statement.specs.Cluster.{group_of}
 use Rattle.statement.specs.Lowest.{somewhere}
 use Rattle.statement.specs.Tree.{Tree, walk, on_walk, cluster_of}
@@ -44,7 +44,7 @@ module _ {links : List ℕ} {home group s x : ℕ} {before after : List ℕ} (is
   elsewhere v n = some_miss (λ j. eqb (walk (linked links) j home) v) s (ne_eqb _ _ (λ e. n (sym e ∙ sym is)))
 
   here : passes links home x (s + 1) ≡ true
-  here = some_at (λ j. eqb (walk (linked links) j home) x) (s + 1) s (omega arith) (eq_eqb _ _ (sym is))
+  here = some_at (λ j. eqb (walk (linked links) j home) x) (s + 1) s (omega arith) (eq-eqb _ _ (sym is))
 
   same_elsewhere : (v : ℕ) → v < length links → v ≢ x → get_or after v 0 ≡ get_or before v 0 + cond (passes links home v (s + 1)) group 0
   same_elsewhere v l n = rw (elsewhere v n) (marked.each v l)
@@ -76,8 +76,8 @@ module _ {links : List ℕ} {home group s x : ℕ} {before after : List ℕ} (is
 
     pub mark_put : x < 125 → get_or after x 0 < group → Marked links home group (s + 1) before (set after x (get_or after x 0 + group))
     mark_put r h =
-        settled (set after x (get_or after x 0 + group)) (length_set after x _ ∙ marked.long) (λ v n. get_or_set_other after x v _ 0 n)
-        (get_or_set_same after x _ 0 (omega (arith, marked.long)) ∙ ap (λ (c : ℕ). c + group) (unmarked (passes links home x s) (marked.each x edge) h))
+        settled (set after x (get_or after x 0 + group)) (length-set after x _ ∙ marked.long) (λ v n. get_or-set_other after x v _ 0 n)
+        (get_or-set_same after x _ 0 (omega (arith, marked.long)) ∙ ap (λ (c : ℕ). c + group) (unmarked (passes links home x s) (marked.each x edge) h))
 
 -- THE CLUSTERS, with one taxon more
 pub cluster_below : (t : Tree) (v n : ℕ) → cluster_of t v n < 2 ^ n
@@ -92,4 +92,4 @@ pub cluster_more : (links homes : List ℕ) (v i c d home group : ℕ) → c ≡
     → group ≡ 2 ^ i → d ≡ c + cond (on_walk (linked links) home v) group 0 → d ≡ cluster_of (placed links homes) v (i + 1)
 unfolding cluster_of group_of
 cluster_more links homes v i c d home group is at one q =
-    rw (add_one i, same_on_walk (placed links homes) [] (get_or homes i 0) v, ← at, ← one, ← is) q
+    rw (add-one i, same_on_walk (placed links homes) [] (get_or homes i 0) v, ← at, ← one, ← is) q

@@ -1,14 +1,14 @@
 -- A body that passes the checks holds an accepted tree. Assumes nothing.
 use Prim.Native.Nat.{ℕ, ◌+◌, ◌*◌, ◌-◌, ◌≤◌, ◌<◌}
 use native.Mathlib.Omega.{arith}
-use native.Mathlib.Nat.{pos_of_ne_zero}
+use native.Mathlib.Nat.{pos_of_ne-zero}
 use native.Mathlib.Decide.{ℕ_discrete}
 use mathlib.Core.Path.{◌≡◌, ap}
 use mathlib.Core.Bool.{true, not, ◌&&◌}
 use mathlib.Core.List.{List}
 use lib.Dec.{ltb, eqb}
 use lib.ListN.{length, get_or}
-use borrow.Author.Tests.{ne_eqb, eqb_false}
+use borrow.Author.Tests.{ne_eqb, eqb-false}
 use Rattle.statement.specs.Matrix.{weight_limit}
 use Rattle.statement.specs.Tree.{Tree, root, up, cluster_of}
 use Rattle.statement.specs.Bytes.{tree_in, tree_length}
@@ -32,8 +32,8 @@ shape_passed n body p =
 weight_passed : (t : Tree) → Passed (weight_off t) → (v : ℕ) → v < root t → (1 ≤ weight_at t v) × (weight_at t v ≤ weight_limit)
 weight_passed t p v l =
     let w = weight_at t v in
-    let (positive, most) = (neither_is (eqb_false w 0, ne_eqb w 0) (not_less_is weight_limit w)).0 (p v l) in
-    (pos_of_ne_zero positive, most)
+    let (positive, most) = (neither_is (eqb-false w 0, ne_eqb w 0) (not_less_is weight_limit w)).0 (p v l) in
+    (pos_of_ne-zero positive, most)
 
 twin_passed : (n : ℕ) (t : Tree) → Passed (twin_off n t) → (u v : ℕ) → u < root t → v < root t → cluster_of t u n ≡ cluster_of t v n → u ≡ v
 twin_passed n t p u v lu lv e = go (ℕ_discrete u v)

@@ -1,14 +1,14 @@
 -- The walk up, in any tree: if it reaches the root at all, it is there after as many steps as there are edges. Assumes nothing.
 use Prim.Native.Nat.{ℕ, zero, suc, ◌+◌, ◌-◌, ◌≤◌, ◌<◌}
 use native.Mathlib.Omega.{arith}
-use native.Mathlib.Nat.{zero_add, suc_add, le_refl}
+use native.Mathlib.Nat.{zero-add, suc-add, le_refl}
 use native.Mathlib.Decide.{dec_lt}
 use mathlib.Core.Path.{◌≡◌, refl, sym, ◌∙◌, ap}
 use mathlib.Core.Logic.{◌⊎◌, inl, inr, ◌↔◌}
 use mathlib.Core.Bool.{Bool, true, false, cond}
 use lib.Dec.{eqb}
-use lib.ListN.{get_or_eq_default}
-use borrow.Author.Tests.{eqb_true, eq_eqb}
+use lib.ListN.{get_or-eq_default}
+use borrow.Author.Tests.{eqb-true, eq-eqb}
 use Rattle.statement.specs.Tree.{Tree, root, up, walk, on_walk}
 use Rattle.statement.proofs.Lowest.{some_at, some_of}
 use Rattle.statement.proofs.Tally.{tally}
@@ -17,7 +17,7 @@ use Rattle.tree_read.proofs.Counting.{agree_or_more, all_one}
 
 module _ (t : Tree) where
   pub up_root : up t (root t) ≡ root t
-  up_root = get_or_eq_default t.links (root t) (le_refl (root t))
+  up_root = get_or-eq_default t.links (root t) (le_refl (root t))
 
   pub walk_root : (s : ℕ) → walk t s (root t) ≡ root t
   unfolding walk
@@ -26,8 +26,8 @@ module _ (t : Tree) where
 
   pub walk_add : (s r v : ℕ) → walk t (s + r) v ≡ walk t r (walk t s v)
   unfolding walk
-  walk_add zero r v = ap (λ (k : ℕ). walk t k v) (zero_add r)
-  walk_add (suc s) r v = ap (λ (k : ℕ). walk t k v) (suc_add s r) ∙ walk_add s r (up t v)
+  walk_add zero r v = ap (λ (k : ℕ). walk t k v) (zero-add r)
+  walk_add (suc s) r v = ap (λ (k : ℕ). walk t k v) (suc-add s r) ∙ walk_add s r (up t v)
 
   -- at the root the walk stays
   pub stays : (s r v : ℕ) → s ≤ r → walk t s v ≡ root t → walk t r v ≡ root t
@@ -41,14 +41,14 @@ module _ (t : Tree) where
 
   arrived_at : (s v : ℕ) → walk t s v ≡ root t → arrived s v ≡ 1
   unfolding arrived
-  arrived_at s v e = rw (eq_eqb (walk t s v) (root t) e)
+  arrived_at s v e = rw (eq-eqb (walk t s v) (root t) e)
 
   arrived_of : (s v : ℕ) → arrived s v ≡ 1 → walk t s v ≡ root t
   unfolding arrived
   arrived_of s v = go (eqb (walk t s v) (root t)) refl
     where
       go : (b : Bool) → eqb (walk t s v) (root t) ≡ b → ◌≡◌ {A = ℕ} (cond b 1 0) 1 → walk t s v ≡ root t
-      go true e h = eqb_true (walk t s v) (root t) e
+      go true e h = eqb-true (walk t s v) (root t) e
       go false e h = absurd (omega arith)
 
   arrived_le : (s v : ℕ) → arrived s v ≤ 1
@@ -64,7 +64,7 @@ module _ (t : Tree) where
   arrived_more s v = go (eqb (walk t s v) (root t)) refl
     where
       go : (b : Bool) → eqb (walk t s v) (root t) ≡ b → cond b 1 0 ≤ arrived (suc s) v
-      go true e = omega (arith, arrived_at (suc s) v (stays s (suc s) v (omega arith) (eqb_true (walk t s v) (root t) e)))
+      go true e = omega (arith, arrived_at (suc s) v (stays s (suc s) v (omega arith) (eqb-true (walk t s v) (root t) e)))
       go false e = omega arith
 
   -- one step more brings no vertex to the root that was not there
@@ -112,20 +112,20 @@ module _ (t : Tree) where
     -- so the test of refusal 10 says exactly that the walk reaches the root
     pub reaches_is : (v : ℕ) → v ≤ root t → (on_walk t v (root t) ≡ true) ↔ Leads t v (root t)
     reaches_is v l = (
-      (λ e. let (s, h, q) = some_of (λ s. eqb (walk t s v) (root t)) (suc (root t)) e in (s, eqb_true (walk t s v) (root t) q)),
+      (λ e. let (s, h, q) = some_of (λ s. eqb (walk t s v) (root t)) (suc (root t)) e in (s, eqb-true (walk t s v) (root t) q)),
       (λ r. some_at (λ s. eqb (walk t s v) (root t)) (suc (root t)) (root t) (omega arith)
-          (eq_eqb (walk t (root t) v) (root t) (reaches_within v l r))),
+          (eq-eqb (walk t (root t) v) (root t) (reaches_within v l r))),
     )
 
   -- and on a walk that reaches the root the test for a vertex says exactly that it lies there
   pub on_walk_is : (a b : ℕ) → walk t (root t) a ≡ root t → (on_walk t a b ≡ true) ↔ Leads t a b
   on_walk_is a b ends = (
-    (λ e. let (s, h, q) = some_of (λ s. eqb (walk t s a) b) (suc (root t)) e in (s, eqb_true (walk t s a) b q)),
+    (λ e. let (s, h, q) = some_of (λ s. eqb (walk t s a) b) (suc (root t)) e in (s, eqb-true (walk t s a) b q)),
     (λ r. back r.0 r.1 (dec_lt r.0 (suc (root t)))),
   )
     where
       back : (s : ℕ) → walk t s a ≡ b → Dec (s < suc (root t)) → on_walk t a b ≡ true
-      back s e (yes h) = some_at (λ s. eqb (walk t s a) b) (suc (root t)) s h (eq_eqb (walk t s a) b e)
+      back s e (yes h) = some_at (λ s. eqb (walk t s a) b) (suc (root t)) s h (eq-eqb (walk t s a) b e)
       back s e (no h) =
           some_at (λ s. eqb (walk t s a) b) (suc (root t)) (root t) (omega arith)
-          (eq_eqb (walk t (root t) a) b (ends ∙ sym (stays (root t) s a (omega arith) ends) ∙ e))
+          (eq-eqb (walk t (root t) a) b (ends ∙ sym (stays (root t) s a (omega arith) ends) ∙ e))

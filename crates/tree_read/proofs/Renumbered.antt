@@ -9,8 +9,8 @@ use mathlib.Core.Logic.{◌⊎◌, inl, inr, ◌↔◌, ◌≢◌}
 use mathlib.Core.Bool.{Bool, true, false, not, ◌&&◌}
 use mathlib.Core.List.{List, map}
 use lib.Dec.{eqb}
-use lib.ListN.{length, get_or, length_map, get_or_map}
-use borrow.Author.Tests.{eqb_true, eq_eqb, ne_eqb, not_true}
+use lib.ListN.{length, get_or, length-map, get_or-map}
+use borrow.Author.Tests.{eqb-true, eq-eqb, ne_eqb, not-true}
 use Rattle.statement.specs.Cluster.{bit, In, Out}
 use Rattle.statement.specs.Lowest.{lowest}
 use Rattle.statement.specs.Rows.{Row, row, weights}
@@ -38,7 +38,7 @@ Strictly n a b = ((i : ℕ) → i < n → In a i → In b i) × (a ≢ b)
 inside_is : (a b i : ℕ) → ((eqb (bit a i) 1 && eqb (bit b i) 0) ≡ false) ↔ (In a i → In b i)
 inside_is a b i =
     Iff.trans (unless_is (eqb (bit a i) 1) (fails_is (same_is (bit b i) 0)))
-    ((λ f h. within (zero_or_one b i) (f (eq_eqb _ _ h))), (λ f e o. clash (f (eqb_true _ _ e)) o))
+    ((λ f h. within (zero_or_one b i) (f (eq-eqb _ _ h))), (λ f e o. clash (f (eqb-true _ _ e)) o))
   where
     within : Out b i ⊎ In b i → (bit b i ≡ 0 → ⊥) → In b i
     within (inl o) f = absurd (f o)
@@ -50,8 +50,8 @@ inside_is a b i =
 strictly_is : (n a b : ℕ) → (strictly_in n a b ≡ true) ↔ Strictly n a b
 unfolding Strictly
 strictly_is n a b =
-    both_is (Iff.trans (not_true _, ap not) (none_is (λ i. eqb (bit a i) 1 && eqb (bit b i) 0) n (inside_is a b)))
-    (Iff.trans (not_true _, ap not) (fails_is (same_is a b)))
+    both_is (Iff.trans (not-true _, ap not) (none_is (λ i. eqb (bit a i) 1 && eqb (bit b i) 0) n (inside_is a b)))
+    (Iff.trans (not-true _, ap not) (fails_is (same_is a b)))
 
 -- walks without a step, and without the first one
 walk_none : (t : Tree) (v : ℕ) → walk t 0 v ≡ v
@@ -85,7 +85,7 @@ module _ (n : ℕ) (t : Tree) (a : AcceptedTree n t) where
   row_placed v p l e =
       found (λ q. eqb (cluster_at rows q) (cluster_of t v n)) (length rows) p
       (λ j h. ne_eqb (cluster_at rows j) (cluster_of t v n) (λ q. omega (arith, is, ascending j p h l)))
-      (omega (arith, count)) (eq_eqb _ _ is)
+      (omega (arith, count)) (eq-eqb _ _ is)
     where
       is : cluster_at rows p ≡ cluster_of t v n
       is = cluster_at_law (edge n t) (root t) p ∙ ap (λ (r : Row). r.cluster) e
@@ -202,12 +202,12 @@ module _ (n : ℕ) (t : Tree) (a : AcceptedTree n t) where
     top = place_root ∙ sym edges;
     links = λ v l.
         map_at (link_of n rows) 0 (length rows) (place v) _ (omega (arith, count, (placed v l).0)) ∙ ap (link_of n rows) (omega arith) ∙ place_link v l;
-    weights = λ v l. get_or_map (λ r. r.weight) rows (place v) (row 0 0) ∙ ap (λ (r : Row). r.weight) (placed v l).1;
+    weights = λ v l. get_or-map (λ r. r.weight) rows (place v) (row 0 0) ∙ ap (λ (r : Row). r.weight) (placed v l).1;
     homes = λ taxon l. map_at (home_of rows) 0 n taxon 0 l ∙ ap (home_of rows) (omega arith) ∙ place_home taxon l;
   }
     where
       edges : length (map (link_of n rows) (numbers 0 (length rows))) ≡ root t
-      edges = length_map (numbers 0 (length rows)) (link_of n rows) ∙ numbers_length 0 (length rows) ∙ count
+      edges = length-map (numbers 0 (length rows)) (link_of n rows) ∙ numbers_length 0 (length rows) ∙ count
 
   pub same_tree : SameTree n t (tree_of n (rows_of_tree n t)) (row_place n t (rows_of_tree n t))
   same_tree = subst (λ (rs : List Row). SameTree n t (tree_of n rs) (row_place n t rs)) (sym (rows_are n t)) rows_tree

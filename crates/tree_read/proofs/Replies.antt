@@ -6,8 +6,8 @@ use mathlib.Core.Logic.{◌⊎◌, inl, inr}
 use mathlib.Core.Bool.{Bool, not, ◌&&◌}
 use mathlib.Core.List.{List, [], ◌∷◌, ◌++◌}
 use lib.Dec.{ltb, eqb}
-use lib.ListN.{length, get_or, take, drop, length_drop}
-use lib.Seq.{length_take_le}
+use lib.ListN.{length, get_or, take, drop, length-drop}
+use lib.Seq.{length-take-le}
 use Rattle.statement.specs.declared.Splits.{Splits}
 use Rattle.statement.specs.declared.Reading.{Reading}
 use Rattle.statement.specs.declared.Outcome.TheVariants.{Done, Refused}
@@ -112,10 +112,10 @@ module _ (n : ℕ) (body : List ℕ) (m : ℕ) (cs : List ℕ) (k : Read n body 
       (k.homes_part ∙ ap (λ (j : ℕ). take n (drop (1 + j) body)) k.first)
 
   links_long : length k.links ≡ m
-  links_long = ap length k.links_part ∙ length_take_le m (drop 1 body) (omega (arith, length_drop 1 body, sized))
+  links_long = ap length k.links_part ∙ length-take-le m (drop 1 body) (omega (arith, length-drop 1 body, sized))
 
   homes_long : length k.homes ≡ n
-  homes_long = ap length k.homes_part ∙ length_take_le n (drop (1 + m) body) (omega (arith, length_drop (1 + m) body, sized))
+  homes_long = ap length k.homes_part ∙ length-take-le n (drop (1 + m) body) (omega (arith, length-drop (1 + m) body, sized))
 
   clusters_are : (v : ℕ) → v < m → get_or cs v 0 ≡ cluster_of (tree_in n body) v n
   clusters_are v l =

@@ -1,13 +1,13 @@
 -- The body of a tree, as bytes, and the tree that it holds. Document 01, "Records in a file". Assumes nothing.
 use Prim.Native.Nat.{ℕ, suc, ◌+◌, ◌*◌, ◌-◌, ◌/◌, ◌%◌, ◌^◌, ◌≤◌, ◌<◌}
 use native.Mathlib.Omega.{arith}
-use native.Mathlib.Nat.{div_div_eq_div_mul}
+use native.Mathlib.Nat.{div-div-eq-div-mul}
 use native.Mathlib.Decide.{dec_lt}
 use mathlib.Core.Path.{◌≡◌, refl, sym, ◌∙◌, ap, ap₂}
 use mathlib.Core.Logic.{inl, inr}
 use mathlib.Core.List.{List, [], ◌∷◌, ◌++◌, append_assoc}
-use lib.ListN.{length, take, drop, get_or, length_append, length_map, get_or_append}
-use lib.Seq.{take_at, drop_at, get_or_append_add}
+use lib.ListN.{length, take, drop, get_or, length-append, length-map, get_or-append}
+use lib.Seq.{take_at, drop_at, get_or-append-add}
 use Rattle.statement.specs.Rows.{Row, Mem}
 use Rattle.statement.specs.Tree.{numbers, Tree, root, home_of, tree_of}
 use Rattle.statement.specs.Bytes.{from_four, to_bytes, from_bytes, tree_body, tree_in, tree_length}
@@ -17,7 +17,7 @@ use Rattle.statement.proofs.Walks.{numbers_length, root_is}
 pub four_back : (w : ℕ) → w < 2 ^ 32 → from_four (w % 256) (w / 256 % 256) (w / 65536 % 256) (w / 16777216 % 256) ≡ w
 four_back w l =
     sum (w % 256) (w / 256 % 256) (w / 65536 % 256) (w / 16777216 % 256) (w / 256) (w / 65536) (w / 16777216) (omega arith)
-    (omega (arith, div_div_eq_div_mul w 256 256)) (omega (arith, div_div_eq_div_mul w 65536 256)) (omega arith)
+    (omega (arith, div-div-eq-div-mul w 256 256)) (omega (arith, div-div-eq-div-mul w 65536 256)) (omega arith)
   where
     sum : (a b c d p q r : ℕ) → w ≡ a + 256 * p → p ≡ b + 256 * q → q ≡ c + 256 * r → r ≡ d → from_four a b c d ≡ w
     sum a b c d p q r x y z v = omega arith
@@ -40,35 +40,35 @@ pub record Sized (n : ℕ) (t : Tree) : Type 0 where
 pub tree_size : (n : ℕ) (rows : List Row) → Sized n (tree_of n rows)
 unfolding tree_of
 tree_size n rows = record {
-  homes = length_map (numbers 0 n) (home_of rows) ∙ numbers_length 0 n;
-  weights = length_map rows (λ r. r.weight) ∙ sym (root_is n rows);
+  homes = length-map (numbers 0 n) (home_of rows) ∙ numbers_length 0 n;
+  weights = length-map rows (λ r. r.weight) ∙ sym (root_is n rows);
 }
 
 module _ (n : ℕ) (t : Tree) (size : Sized n t) where
   -- links and homes stand side by side behind the first byte
   pub sides : length (t.links ++ t.homes) ≡ root t + n
-  sides = length_append t.links t.homes ∙ ap (λ (k : ℕ). root t + k) size.homes
+  sides = length-append t.links t.homes ∙ ap (λ (k : ℕ). root t + k) size.homes
 
   pub body_length_law : length (tree_body t) ≡ tree_length n (root t)
   unfolding tree_body
-  body_length_law = omega (arith, length_append (t.links ++ t.homes) (to_bytes t.weights), sides, bytes_length t.weights, size.weights)
+  body_length_law = omega (arith, length-append (t.links ++ t.homes) (to_bytes t.weights), sides, bytes_length t.weights, size.weights)
 
   -- the vertex that stands at a place of the links, or of the homes
   pub body_vertex : (i : ℕ) → i < root t + n → get_or (tree_body t) (1 + i) 0 ≡ get_or (t.links ++ t.homes) i 0
   unfolding tree_body
   body_vertex i l =
       ap (λ (k : ℕ). get_or (tree_body t) k 0) (let e : 1 + i ≡ suc i = omega arith in e)
-      ∙ get_or_append (t.links ++ t.homes) (to_bytes t.weights) 0 i (omega (arith, sides))
+      ∙ get_or-append (t.links ++ t.homes) (to_bytes t.weights) 0 i (omega (arith, sides))
 
   pub vertices_within : (limit : ℕ) → ((i : ℕ) → i < root t → get_or t.links i 0 ≤ limit) → ((i : ℕ) → i < n → get_or t.homes i 0 ≤ limit)
       → (i : ℕ) → i < root t + n → get_or (t.links ++ t.homes) i 0 ≤ limit
   vertices_within limit links homes i l = go (dec_lt i (root t))
     where
       go : Dec (i < root t) → get_or (t.links ++ t.homes) i 0 ≤ limit
-      go (yes h) = omega (arith, links i h, get_or_append t.links t.homes 0 i h)
+      go (yes h) = omega (arith, links i h, get_or-append t.links t.homes 0 i h)
       go (no h) =
           let e : i ≡ root t + (i - root t) = omega arith in
-          omega (arith, homes (i - root t) (omega arith), ap (λ (k : ℕ). get_or (t.links ++ t.homes) k 0) e ∙ get_or_append_add t.links t.homes (i - root t) 0)
+          omega (arith, homes (i - root t) (omega arith), ap (λ (k : ℕ). get_or (t.links ++ t.homes) k 0) e ∙ get_or-append-add t.links t.homes (i - root t) 0)
 
   -- THE TREE OF THE BODY OF A TREE is that tree
   pub tree_in_body : ((w : ℕ) → Mem w t.weights → w < 2 ^ 32) → tree_in n (tree_body t) ≡ t

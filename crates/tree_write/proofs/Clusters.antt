@@ -8,8 +8,8 @@ use mathlib.Core.Logic.{◌⊎◌, inl, inr}
 use mathlib.Core.Bool.{Bool, cond}
 use mathlib.Core.List.{List, [], ◌∷◌, map}
 use lib.Dec.{eqb}
-use lib.ListN.{length, get_or, get_or_map}
-use borrow.Author.Tests.{eq_eqb, ne_eqb, le_leb}
+use lib.ListN.{length, get_or, get_or-map}
+use borrow.Author.Tests.{eq-eqb, ne_eqb, le-leb}
 use Rattle.statement.specs.Cluster.{bit, In, Out}
 use Rattle.statement.specs.Rows.{Row, row, clusters, weights, Ascending}
 use Rattle.statement.specs.Tree.{numbers, root, cluster_at, link_of, home_of, tree_of, up, walk, on_walk, cluster_of, insert_row, sort_rows, rows_of_tree}
@@ -78,8 +78,8 @@ module _ (n : ℕ) (rows : List Row) (clean : Clean n (clusters rows)) where
         at (inr h) =
             let close = (home_smallest n rows clean i li).lowest v h in
             let (s, few, e) = passes v (home_of rows i) v (omega arith) close lv (home_holds (omega arith)) h in
-            some_at (λ s. eqb (walk (tree_of n rows) s (home_of rows i)) v) (suc (root (tree_of n rows))) s (omega (arith, root_is n rows)) (eq_eqb _ v e)
-            ∙ sym (eq_eqb (bit (cluster_at rows v) i) 1 h)
+            some_at (λ s. eqb (walk (tree_of n rows) s (home_of rows i)) v) (suc (root (tree_of n rows))) s (omega (arith, root_is n rows)) (eq-eqb _ v e)
+            ∙ sym (eq-eqb (bit (cluster_at rows v) i) 1 h)
         at (inl o) =
             none_at (λ s. eqb (walk (tree_of n rows) s (home_of rows i)) v) (suc (root (tree_of n rows)))
             (λ s l. ne_eqb _ v
@@ -120,7 +120,7 @@ unfolding sort_rows insert_row
 sort_ascending low high [] asc = refl
 sort_ascending low high (r ∷ []) asc = refl
 sort_ascending low high (r ∷ (x ∷ xs)) asc =
-    ap (insert_row r) (sort_ascending (suc r.cluster) high (x ∷ xs) asc.1) ∙ rw (le_leb r.cluster x.cluster (omega (arith, asc.1.0)))
+    ap (insert_row r) (sort_ascending (suc r.cluster) high (x ∷ xs) asc.1) ∙ rw (le-leb r.cluster x.cluster (omega (arith, asc.1.0)))
 
 pub list_tree_list : (n : ℕ) (rows : List Row) → Clean n (clusters rows) → rows_of_tree n (tree_of n rows) ≡ rows
 unfolding rows_of_tree tree_of
@@ -134,4 +134,4 @@ list_tree_list n rows clean =
     same : (j : ℕ) → j < length rows → edge (0 + j) ≡ get_or rows j (row 0 0)
     same j l =
         ap edge (let e : 0 + j ≡ j = omega arith in e)
-        ∙ ap₂ row (cluster_of_list n rows clean j l ∙ get_or_map (λ r. r.cluster) rows j (row 0 0)) (get_or_map (λ r. r.weight) rows j (row 0 0))
+        ∙ ap₂ row (cluster_of_list n rows clean j l ∙ get_or-map (λ r. r.cluster) rows j (row 0 0)) (get_or-map (λ r. r.weight) rows j (row 0 0))

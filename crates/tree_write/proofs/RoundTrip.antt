@@ -8,8 +8,8 @@ use mathlib.Core.Logic.{◌≢◌}
 use mathlib.Core.Bool.{not, ◌&&◌}
 use mathlib.Core.List.{List, [], ◌∷◌}
 use lib.Dec.{ltb, eqb}
-use lib.ListN.{length, get_or, length_map}
-use borrow.Author.Tests.{eqb_false, eq_eqb, ne_eqb, not_true}
+use lib.ListN.{length, get_or, length-map}
+use borrow.Author.Tests.{eqb-false, eq-eqb, ne_eqb, not-true}
 use Rattle.statement.specs.declared.Splits.{Splits}
 use Rattle.statement.specs.declared.Reading.{Reading}
 use Rattle.statement.specs.declared.Outcome.TheVariants.{Done}
@@ -47,7 +47,7 @@ module _ (n : ℕ) (rows : List Row) (two : 2 ≤ n) (few : n ≤ 64) (well : We
 
   weight_listed : (v : ℕ) → v < length rows → Mem (get_or tree.weights v 0) (weights rows)
   unfolding tree_of
-  weight_listed v l = mem_get_d (weights rows) v (omega (arith, length_map rows (λ r. r.weight)))
+  weight_listed v l = mem_get_d (weights rows) v (omega (arith, length-map rows (λ r. r.weight)))
 
   pub tree_of_body : tree_in n body ≡ tree
   unfolding tree_of
@@ -57,7 +57,7 @@ module _ (n : ℕ) (rows : List Row) (two : 2 ≤ n) (few : n ≤ 64) (well : We
   length_passed i l =
       ap not
       (some_at (λ m. eqb (length body) (tree_length n m)) (2 * n - 2) (length rows) (omega (arith, rows_few weight_limit n rows two well))
-      (eq_eqb (length body) (tree_length n (length rows)) (body_length_law n tree size ∙ ap (tree_length n) edges)))
+      (eq-eqb (length body) (tree_length n (length rows)) (body_length_law n tree size ∙ ap (tree_length n) edges)))
 
   link_within : (i : ℕ) → i < root tree → get_or tree.links i 0 ≤ root tree
   link_within i l =
@@ -85,10 +85,10 @@ module _ (n : ℕ) (rows : List Row) (two : 2 ≤ n) (few : n ≤ 64) (well : We
   walk_passed v l =
       ap not
       (some_at (λ s. eqb (walk tree s v) (root tree)) (suc (root tree)) (length rows) (omega (arith, edges))
-      (eq_eqb _ _ (walks_end n rows well.clean.up v (omega (arith, edges)))))
+      (eq-eqb _ _ (walks_end n rows well.clean.up v (omega (arith, edges)))))
 
   home_passed : Passed (home_off tree)
-  home_passed i l = ap not (eq_eqb _ _ (home_is n rows 0 (omega arith) ∙ at_root (dec_lt (home_of rows 0) (length rows)) ∙ sym edges))
+  home_passed i l = ap not (eq-eqb _ _ (home_is n rows 0 (omega arith) ∙ at_root (dec_lt (home_of rows 0) (length rows)) ∙ sym edges))
     where
       at_root : Dec (home_of rows 0 < length rows) → home_of rows 0 ≡ length rows
       at_root (yes h) =
@@ -114,7 +114,7 @@ module _ (n : ℕ) (rows : List Row) (two : 2 ≤ n) (few : n ≤ 64) (well : We
   twin_passed v lv =
       none_at (λ w. not (eqb v w) && eqb (cluster_of tree v n) (cluster_of tree w n)) (root tree)
       (λ w lw. (unless_is (not (eqb v w)) (fails_is (same_is (cluster_of tree v n) (cluster_of tree w n)))).1
-      (λ e same. apart v w lv lw (eqb_false v w (not_true _ e)) (sym (edge_cluster v lv) ∙ same ∙ edge_cluster w lw)))
+      (λ e same. apart v w lv lw (eqb-false v w (not-true _ e)) (sym (edge_cluster v lv) ∙ same ∙ edge_cluster w lw)))
 
   -- THE WRITTEN TREE PASSES EVERY CHECK
   pub written_passes : AllPassed (tree_checks n body)

@@ -8,7 +8,7 @@ use mathlib.Core.List.{List}
 use lib.Bits.{bit_and, and_le_l}
 use lib.Dec.{eqb}
 use lib.ListN.{length, get_or}
-use borrow.Author.Tests.{eqb_true, eqb_false}
+use borrow.Author.Tests.{eqb-true, eqb-false}
 use Rattle.statement.specs.Cluster.{bit, In, Out}
 use Rattle.statement.specs.Lowest.{lowest}
 use Rattle.statement.specs.Rows.{Row}
@@ -36,7 +36,7 @@ pub same_not_in : (n a b : ℕ) → a ≡ b → false ≡ strictly_in n a b
 same_not_in n a b e = sym ((fails_is (strictly_is n a b)).1 (λ s. s.other e))
 
 pub masked_in : (n a b : ℕ) → a < 2 ^ n → a ≢ b → eqb (bit_and a b) a ≡ strictly_in n a b
-masked_in n a b l other = go (eqb (bit_and a b) a) (λ e. eqb_true (bit_and a b) a e) (λ e. eqb_false (bit_and a b) a e)
+masked_in n a b l other = go (eqb (bit_and a b) a) (λ e. eqb-true (bit_and a b) a e) (λ e. eqb-false (bit_and a b) a e)
   where
     go : (r : Bool) → (r ≡ true → bit_and a b ≡ a) → (r ≡ false → bit_and a b ≢ a) → r ≡ strictly_in n a b
     go true y f = sym ((strictly_is n a b).1 (record { part = mask_part n a b (y refl); other = other }))

@@ -8,7 +8,7 @@ use mathlib.Core.Logic.{◌⊎◌, inl, inr, ◌↔◌}
 use mathlib.Core.Bool.{Bool, true, true≢false}
 use mathlib.Core.List.{List}
 use lib.Dec.{eqb}
-use lib.ListN.{length, length_map}
+use lib.ListN.{length, length-map}
 use Rattle.statement.specs.Cluster.{bit, In, Out}
 use Rattle.statement.specs.Lowest.{lowest}
 use Rattle.statement.specs.Rows.{Row, clusters, Listed}
@@ -39,7 +39,7 @@ HomeSmallest n rows taxon = Smallest n rows (λ c. In c taxon) (home_of rows tax
 -- ROWS WITHOUT CONFLICT
 module _ (n : ℕ) (rows : List Row) (clean : Clean n (clusters rows)) where
   listed : (i : ℕ) → i < length rows → Listed (cluster_at rows i) rows
-  listed i l = mem_get_d (clusters rows) i (omega (arith, length_map rows (λ r. r.cluster)))
+  listed i l = mem_get_d (clusters rows) i (omega (arith, length-map rows (λ r. r.cluster)))
 
   pub free_at : (i : ℕ) → i < length rows → Out (cluster_at rows i) 0
   free_at i l = clean.free (cluster_at rows i) (listed i l)

@@ -3,14 +3,14 @@
 use Prim.Native.Nat.{ℕ, ◌+◌, ◌*◌, ◌-◌, ◌≤◌, ◌<◌}
 use native.Mathlib.Omega.{arith}
 use native.Mathlib.Decide.{dec_lt}
-use native.Mathlib.Nat.{mul_le_mul}
+use native.Mathlib.Nat.{mul-le-mul}
 use mathlib.Core.Path.{◌≡◌, refl, sym, ◌∙◌, ap, ap₂}
 use mathlib.Core.Bool.{false, cond}
 use mathlib.Core.List.{List}
 use lib.Arith.{digits_lt, digits_div, digits_mod}
 use lib.Dec.{ltb, eqb}
 use lib.ListN.{length, get_or}
-use borrow.Author.Tests.{lt_ltb, le_ltb, eq_eqb, ne_eqb}
+use borrow.Author.Tests.{lt-ltb, le-ltb, eq-eqb, ne_eqb}
 use Rattle.statement.specs.declared.Outcome.TheVariants.{Done}
 use Rattle.statement.specs.Matrix.{distance, distance_limit, AcceptedMatrix}
 use Rattle.statement.specs.Refusals.{outcome_of, matrix_checks}
@@ -19,24 +19,24 @@ use Rattle.typed.specs.Typed.{half, is_full, entries_of}
 use Rattle.typed.proofs.Entries.{full_is, mirrored_at, entries_length}
 
 pub full_as_typed : (n : ℕ) (values : List ℕ) → length values ≡ n * n → entries_of n values ≡ values
-full_as_typed n values l = full_is n values (eq_eqb (length values) (n * n) l)
+full_as_typed n values l = full_is n values (eq-eqb (length values) (n * n) l)
 
 -- what a lower half says of two taxa
 abbrev pair_of : List ℕ → ℕ → ℕ → ℕ
 pair_of values i j = cond (eqb i j) 0 (get_or values (cond (ltb i j) (half j + i) (half i + j)) 0)
 
 pair_below : (values : List ℕ) (i j : ℕ) → j < i → pair_of values i j ≡ get_or values (half i + j) 0
-pair_below values i j l = rw (ne_eqb i j (λ e. omega arith), le_ltb i j (omega arith))
+pair_below values i j l = rw (ne_eqb i j (λ e. omega arith), le-ltb i j (omega arith))
 
 pair_above : (values : List ℕ) (i j : ℕ) → i < j → pair_of values i j ≡ get_or values (half j + i) 0
-pair_above values i j l = rw (ne_eqb i j (λ e. omega arith), lt_ltb i j l)
+pair_above values i j l = rw (ne_eqb i j (λ e. omega arith), lt-ltb i j l)
 
 module _ (n : ℕ) (values : List ℕ) (two : 2 ≤ n) (typed : length values ≡ half n) where
   not_full : is_full n values ≡ false
   not_full =
       let m : n - 1 ≤ n = omega arith in
-      let less : n * (n - 1) ≤ n * n = mul_le_mul (omega arith) m in
-      let some : 2 * 2 ≤ n * n = mul_le_mul two two in
+      let less : n * (n - 1) ≤ n * n = mul-le-mul (omega arith) m in
+      let some : 2 * 2 ≤ n * n = mul-le-mul two two in
       ne_eqb (length values) (n * n) (λ e. omega arith)
 
   pair_is : (i j : ℕ) → i < n → j < n → distance n (entries_of n values) i j ≡ pair_of values i j
@@ -52,7 +52,7 @@ module _ (n : ℕ) (values : List ℕ) (two : 2 ≤ n) (typed : length values �
   lower_above i j lj l = pair_is i j (omega arith) lj ∙ pair_above values i j l
 
   pub lower_diagonal : (i : ℕ) → i < n → distance n (entries_of n values) i i ≡ 0
-  lower_diagonal i l = pair_is i i l l ∙ rw (eq_eqb i i refl)
+  lower_diagonal i l = pair_is i i l l ∙ rw (eq-eqb i i refl)
 
   module _ (few : n ≤ 64) (limit : (k : ℕ) → get_or values k 0 ≤ distance_limit) where
     small : (i j : ℕ) → i < n → j < n → Dec (i < j) → Dec (j < i) → distance n (entries_of n values) i j ≤ distance_limit

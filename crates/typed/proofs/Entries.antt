@@ -1,15 +1,15 @@
 -- The entries of a typed matrix, one by one, and the sizes of what is reckoned with. Assumes nothing.
 use Prim.Native.Nat.{ℕ, ◌+◌, ◌*◌, ◌-◌, ◌/◌, ◌%◌, ◌≤◌, ◌<◌}
 use native.Mathlib.Omega.{arith}
-use native.Mathlib.Nat.{mul_le_mul, mod_lt, div_lt_iff_lt_mul}
+use native.Mathlib.Nat.{mul-le-mul, mod-lt, div-lt_iff_lt-mul}
 use mathlib.Core.Path.{◌≡◌, refl, ◌∙◌, ap}
 use mathlib.Core.Logic.{◌⊎◌, inl, inr}
 use mathlib.Core.Bool.{Bool, true, false, cond}
 use mathlib.Core.List.{List, map}
 use lib.Dec.{eqb}
-use lib.ListN.{length, get_or, length_map}
-use lib.Seq.{get_or_drop}
-use borrow.Author.Tests.{eqb_true}
+use lib.ListN.{length, get_or, length-map}
+use lib.Seq.{get_or-drop}
+use borrow.Author.Tests.{eqb-true}
 use Rattle.statement.specs.Tree.{numbers}
 use Rattle.statement.proofs.Walks.{numbers_length, map_at}
 use Rattle.numerals.specs.Numerals.{numbers_in}
@@ -17,10 +17,10 @@ use Rattle.typed.specs.Typed.{values_in, half, is_full, value_for, mirrored, ent
 
 -- for at most 64 taxa all is small
 pub square_small : (n : ℕ) → n ≤ 64 → n * n ≤ 4096
-square_small n l = mul_le_mul l l
+square_small n l = mul-le-mul l l
 
 pub rows_small : (i : ℕ) → i ≤ 64 → i * (i - 1) ≤ 4096
-rows_small i l = let m : i - 1 ≤ 64 = omega arith in mul_le_mul l m
+rows_small i l = let m : i - 1 ≤ 64 = omega arith in mul-le-mul l m
 
 pub half_small : (i : ℕ) → i ≤ 64 → half i ≤ 2048
 half_small i l = omega (arith, rows_small i l)
@@ -28,14 +28,14 @@ half_small i l = omega (arith, rows_small i l)
 -- row and column of an entry
 module _ (n e : ℕ) (some : 2 ≤ n) (l : e < n * n) where
   pub row_below : e / n < n
-  row_below = let pn : 0 < n = omega arith in (div_lt_iff_lt_mul pn).1 l
+  row_below = let pn : 0 < n = omega arith in (div-lt_iff_lt-mul pn).1 l
 
   pub column_below : e % n < n
-  column_below = mod_lt e (omega arith)
+  column_below = mod-lt e (omega arith)
 
 -- value k is the number behind n and k others
 pub value_is : (text : List ℕ) (k : ℕ) → get_or (values_in text) k 0 ≡ get_or (numbers_in text) (1 + k) 0
-value_is text k = get_or_drop 1 (numbers_in text) k 0
+value_is text k = get_or-drop 1 (numbers_in text) k 0
 
 module _ (n : ℕ) (values : List ℕ) where
   pub full_is : is_full n values ≡ true → entries_of n values ≡ values
@@ -50,8 +50,8 @@ module _ (n : ℕ) (values : List ℕ) where
   entries_length = go (is_full n values) refl
     where
       go : (t : Bool) → is_full n values ≡ t → length (entries_of n values) ≡ n * n
-      go true f = ap length (full_is f) ∙ eqb_true (length values) (n * n) f
-      go false f = ap length (half_is f) ∙ length_map (numbers 0 (n * n)) (mirrored n values) ∙ numbers_length 0 (n * n)
+      go true f = ap length (full_is f) ∙ eqb-true (length values) (n * n) f
+      go false f = ap length (half_is f) ∙ length-map (numbers 0 (n * n)) (mirrored n values) ∙ numbers_length 0 (n * n)
 
   module _ (e : ℕ) (l : e < n * n) where
     pub mirrored_at : is_full n values ≡ false → get_or (entries_of n values) e 0 ≡ mirrored n values e

@@ -6,8 +6,8 @@ use mathlib.Core.Logic.{◌≢◌}
 use mathlib.Core.Bool.{Bool, true, false, cond, ◌||◌}
 use mathlib.Core.List.{List}
 use lib.Dec.{ltb, eqb}
-use lib.ListN.{length, get_or, length_map, length_drop}
-use borrow.Author.Tests.{ltb_false, lt_ltb, le_ltb, eq_eqb, ne_eqb}
+use lib.ListN.{length, get_or, length-map, length-drop}
+use borrow.Author.Tests.{ltb-false, lt-ltb, le-ltb, eq-eqb, ne_eqb}
 use Rattle.statement.specs.Lowest.{lowest}
 use Rattle.statement.proofs.Lowest.{none_of}
 use Rattle.numerals.specs.Numerals.{starts_in, number_at, numbers_in, wrong_at}
@@ -16,7 +16,7 @@ use Rattle.typed.specs.declared.Typed.TheVariants.{Matrix, Strange, TooLarge, Ta
 use Rattle.typed.specs.Typed.{taxa_typed, values_in, half, said_of, taxa_of, accepted, Taken}
 
 pub values_count : (text : List ℕ) → length (values_in text) ≡ length (starts_in text) - 1
-values_count text = length_drop 1 (numbers_in text) ∙ ap (λ (k : ℕ). k - 1) (length_map (starts_in text) (number_at text))
+values_count text = length-drop 1 (numbers_in text) ∙ ap (λ (k : ℕ). k - 1) (length-map (starts_in text) (number_at text))
 
 from_taxa : (said : Typed) (n : ℕ) → n ≡ taxa_of said → n ≢ 0 → Matrix n ≡ said
 from_taxa (Matrix m) n e some = ap Matrix e
@@ -29,29 +29,29 @@ from_taxa Room n e some = absurd (some e)
 module _ (text : List ℕ) where
   pub said_strange : (p : ℕ) → p ≡ lowest (wrong_at 1 text) (length text) → p < length text → Strange p ≡ said_of text
   unfolding said_of
-  said_strange p e l = rw (← e, lt_ltb p (length text) l)
+  said_strange p e l = rw (← e, lt-ltb p (length text) l)
 
   module _ (p : ℕ) (e : p ≡ lowest (wrong_at 1 text) (length text)) (l : length text ≤ p) where
     pub said_large : (q : ℕ) → q ≡ lowest (wrong_at 2 text) (length text) → q < length text → TooLarge q ≡ said_of text
     unfolding said_of
-    said_large q f m = rw (← e, le_ltb p (length text) l, ← f, lt_ltb q (length text) m)
+    said_large q f m = rw (← e, le-ltb p (length text) l, ← f, lt-ltb q (length text) m)
 
     module _ (q : ℕ) (f : q ≡ lowest (wrong_at 2 text) (length text)) (m : length text ≤ q) (n : ℕ) (g : n ≡ min (taxa_typed text) 4294967296) where
       pub said_few : (at : ℕ) → at ≡ get_or (starts_in text) 0 (length text) → n < 2 → Taxa at ≡ said_of text
       unfolding said_of
       said_few at h k =
-          rw (← e, le_ltb p (length text) l, ← f, le_ltb q (length text) m, lt_ltb (taxa_typed text) 2 (omega arith), ← h)
+          rw (← e, le-ltb p (length text) l, ← f, le-ltb q (length text) m, lt-ltb (taxa_typed text) 2 (omega arith), ← h)
 
       pub said_many : (at : ℕ) → at ≡ get_or (starts_in text) 0 (length text) → 64 < n → Taxa at ≡ said_of text
       unfolding said_of
       said_many at h k =
           rw (
             ← e,
-            le_ltb p (length text) l,
+            le-ltb p (length text) l,
             ← f,
-            le_ltb q (length text) m,
-            le_ltb (taxa_typed text) 2 (omega arith),
-            lt_ltb 64 (taxa_typed text) (omega arith),
+            le-ltb q (length text) m,
+            le-ltb (taxa_typed text) 2 (omega arith),
+            lt-ltb 64 (taxa_typed text) (omega arith),
             ← h,
           )
 
@@ -60,13 +60,13 @@ module _ (text : List ℕ) where
         unfolding said_of
         past =
             let same : taxa_typed text ≡ n = omega arith in
-            rw (← e, le_ltb p (length text) l, ← f, le_ltb q (length text) m, same, le_ltb n 2 two, le_ltb 64 n few, ← h)
+            rw (← e, le-ltb p (length text) l, ← f, le-ltb q (length text) m, same, le-ltb n 2 two, le-ltb 64 n few, ← h)
 
         pub said_full : v ≡ n * n → Matrix n ≡ said_of text
-        said_full k = rw (past, eq_eqb v (n * n) k)
+        said_full k = rw (past, eq-eqb v (n * n) k)
 
         pub said_half : v ≢ n * n → v ≡ half n → Matrix n ≡ said_of text
-        said_half k i = rw (past, ne_eqb v (n * n) k, eq_eqb v (half n) i)
+        said_half k i = rw (past, ne_eqb v (n * n) k, eq-eqb v (half n) i)
 
         pub said_count : v ≢ n * n → v ≢ half n → (at : ℕ) → at ≡ get_or (starts_in text) (1 + n * n) (length text) → Count n v at ≡ said_of text
         said_count k i at j = rw (past, ne_eqb v (n * n) k, ne_eqb v (half n) i, j)
@@ -89,7 +89,7 @@ module _ (text : List ℕ) where
       go false false x false y false z false e = absurd (let o : ◌≡◌ {A = ℕ} 0 1 = cc in omega arith)
       go false false x false y false z true e =
           let same : n ≡ taxa_typed text = ap taxa_of e in
-          record { two = omega (arith, ltb_false (taxa_typed text) 2 y); few = omega (arith, ltb_false 64 (taxa_typed text) z); small = none_of (wrong_at 2 text) (length text) x }
+          record { two = omega (arith, ltb-false (taxa_typed text) 2 y); few = omega (arith, ltb-false 64 (taxa_typed text) z); small = none_of (wrong_at 2 text) (length text) x }
 
   pub taken : (n : ℕ) → n ≡ accepted text → n ≢ 0 → Taken n text
   taken n e some = matrix_taken n (from_taxa (said_of text) n e some)

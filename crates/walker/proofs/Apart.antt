@@ -14,7 +14,7 @@ use contract.Lifetimes.{Lfts}
 use types.Kit.{‵, raw, ◌⊛◌, given, ◌$◌, ◌∵◌, !, qed, move, drop, use1, use2, split, learn, fsplit, fjoin, frame, done}
 use denote.RattleType.{RattleType, owns}
 use denote.Laws.{Is}
-use denote.Plain.{uint_makes}
+use denote.Plain.{uint_Makes}
 use denote.Builtin.{usize}
 use denote.Signature.{named_lft}
 use denote.Slice.{slice_val}
@@ -69,5 +69,5 @@ apart {𝓤 = 𝓤} 𝓛 κ q d fits =
     use1 𝓛 (given (mach κ d ∷ [] ≡ mach κ d ∷ []) (‵ (all_own (D κ d).parts (L κ d) (vd κ d)))) (own_open 𝓛 (D κ d) (L κ d) (vd κ d) (mach κ d)) $
     learn ! (λ _. use1 𝓛 (‵ (field_own (D κ d).parts (L κ d) 0 d.file) ⊛ ‵ (rest (D κ d).parts (L κ d) 0 (vd κ d))) (own_out 𝓛 (D κ d).parts (L κ d) 0 (vd κ d)) $ split ! $
     -- [what file owns; what place owns; what the struct owns; the token]
-    move ! (1 ∷ []) $ drop ! $ nothing ! $ owned ! usize (Is usize) (uint_makes 𝓛 w64) d.place _ (refl, fits) $ fjoin ! $ move ! (1 ∷ 0 ∷ []) $ fjoin ! $
+    move ! (1 ∷ []) $ drop ! $ nothing ! $ owned ! usize (Is usize) (uint_Makes 𝓛 w64) d.place _ (refl, fits) $ fjoin ! $ move ! (1 ∷ 0 ∷ []) $ fjoin ! $
     move ! (2 ∷ 0 ∷ []) $ use2 𝓛 (raw (on_entry 𝓛 step.signature (κ, tt) (q, tt) (d.file, (d.place, tt)) (passed κ d))) (id⊢ 𝓤 _) $ frame ! $ done !)

@@ -1,11 +1,11 @@
 -- Words of four bytes, one after the other. Assumes nothing.
 use Prim.Native.Nat.{ℕ, zero, suc, ◌+◌, ◌*◌, ◌<◌}
-use native.Mathlib.Numerals.{add_one}
+use native.Mathlib.Numerals.{add-one}
 use native.Mathlib.Omega.{arith}
 use mathlib.Core.Path.{◌≡◌, sym, ◌∙◌, ap}
 use mathlib.Core.List.{List, [], ◌∷◌}
 use lib.ListN.{length, take, get_or, set}
-use lib.Seq.{take_suc, take_suc_set, take_all}
+use lib.Seq.{take-suc, take-suc-set, take_all}
 use Rattle.statement.specs.Bytes.{from_bytes}
 use Rattle.tree_body.specs.Words.{word_at}
 use Rattle.tree_body.proofs.Body.{word_at_law}
@@ -26,7 +26,7 @@ module _ (body : List ℕ) (count : ℕ) (size : length body ≡ 4 * count) wher
   word_more words e word room l is so_far =
       let within : e < length (from_bytes body) = omega (arith, word_count body count size) in
       let same : word ≡ get_or (from_bytes body) e 0 = is ∙ sym (word_at_law body e (omega arith)) in
-      rw (add_one e, take_suc_set words e word, take_suc (from_bytes body) e 0) (rw (so_far, same))
+      rw (add-one e, take-suc-set words e word, take-suc (from_bytes body) e 0) (rw (so_far, same))
 
   pub words_all : (words : List ℕ) (e : ℕ) → e ≡ count → take e words ≡ take e (from_bytes body) → take count words ≡ from_bytes body
   words_all words e at so_far =

@@ -2,8 +2,8 @@
 use Prim.Native.Nat.{◌-◌}
 use mathlib.Core.Path.{sym, ◌∙◌}
 use borrow.Author.Rules.{rules}
-use Rattle.statement.proofs.Lowest.{Looking, looking-begun, looking-on}
-use Rattle.bits.proofs.Searches.{besides, not-alone, all-passed}
+use Rattle.statement.proofs.Lowest.{Looking, looking_begun, looking_on}
+use Rattle.bits.proofs.Searches.{besides, not_alone, all_passed}
 use Rattle.bits.proofs.is_alone.Statement.{statement}
 use Rattle.bits.proofs.is_alone.Tie as tie
 
@@ -14,7 +14,7 @@ abbrev decreases-loop : tie.decreases-loop
 decreases-loop k c u i₀ i = k - i
 
 loop-holds : tie.Need-loop-init invariant-loop decreases-loop
-loop-holds c = looking-begun
+loop-holds c = looking_begun
 
 beside-requires : tie.Need-beside-requires invariant-loop decreases-loop
 beside-requires c κs = search rules
@@ -23,7 +23,7 @@ returns : tie.Need-returns invariant-loop decreases-loop
 returns c =
     let l = c.before.before.before in
     let a = l.before.args in
-    not-alone a.k a.c a.u l.loop.i c.before.before.loop-test.true (sym c.before.beside.ensures ∙ c.if1.true)
+    not_alone a.k a.c a.u l.loop.i c.before.before.loop-test.true (sym c.before.beside.ensures ∙ c.if1.true)
 
 add-i : tie.Need-overflow-add-i invariant-loop decreases-loop
 add-i c = search rules
@@ -32,12 +32,12 @@ loop-less : tie.Need-loop-smaller invariant-loop decreases-loop
 loop-less c = search rules
 
 loop-again : tie.Need-loop-preserved invariant-loop decreases-loop
-loop-again c = looking-on c.before.before.before.loop.invariant c.before.before.loop-test.true (sym c.before.beside.ensures ∙ c.if1.false)
+loop-again c = looking_on c.before.before.before.loop.invariant c.before.before.loop-test.true (sym c.before.beside.ensures ∙ c.if1.false)
 
 returns-2 : tie.Need-returns-2 invariant-loop decreases-loop
 returns-2 c =
     let a = c.before.before.args in
-    all-passed a.k a.c a.u c.before.loop.i c.before.loop.invariant c.loop-test.false
+    all_passed a.k a.c a.u c.before.loop.i c.before.loop.invariant c.loop-test.false
 
 pub is-alone-spec : {M : Type 1} → statement M
 is-alone-spec =

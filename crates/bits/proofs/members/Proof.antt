@@ -6,7 +6,7 @@ use lib.Dec.{eqb}
 use lib.ListN.{length, length-set}
 use Rattle.statement.specs.Cluster.{bit}
 use Rattle.bits.specs.Members.{Members}
-use Rattle.bits.proofs.Sides.{rest-none, rest-turn, rest-side, members-none, members-turn}
+use Rattle.bits.proofs.Sides.{rest_none, rest_turn, rest_side, members_none, members_turn}
 use borrow.Author.Rules.{rules}
 use Rattle.bits.proofs.members.Statement.{statement}
 use Rattle.bits.proofs.members.Tie as tie
@@ -21,7 +21,7 @@ shr-own : tie.Need-overflow-shr-own invariant-loop decreases-loop
 shr-own c = search rules
 
 loop-holds : tie.Need-loop-init invariant-loop decreases-loop
-loop-holds c = (omega arith, c.requires.2, members-none _ _ _, rest-none _)
+loop-holds c = (omega arith, c.requires.2, members_none _ _ _, rest_none _)
 
 mul-taxa : tie.Need-overflow-mul-taxa invariant-loop decreases-loop
 mul-taxa c = search rules
@@ -46,8 +46,8 @@ loop-again c =
     let room : i.count < length i.taxa = omega (arith, i.invariant.2.few, i.invariant.1) in (
       omega arith,
       simp length-set i.invariant.1,
-      members-turn a.a a.c i.y i.taxa i.count i.invariant.2 room (eqb (i.rest % 2) (bit a.c a.a)) (rest-side a.c a.a i.y i.invariant.3) c.counted.ensures,
-      rest-turn a.c i.y i.invariant.3,
+      members_turn a.a a.c i.y i.taxa i.count i.invariant.2 room (eqb (i.rest % 2) (bit a.c a.a)) (rest_side a.c a.a i.y i.invariant.3) c.counted.ensures,
+      rest_turn a.c i.y i.invariant.3,
     )
 
 returns : tie.Need-returns invariant-loop decreases-loop

@@ -5,8 +5,8 @@ use mathlib.Core.Path.{◌≡◌}
 use lib.ListN.{length}
 use borrow.Author.Rules.{rules}
 use Rattle.splits_list.proofs.Laws.{Roomy}
-use Rattle.grow.specs.Source.{trialBy, mostBy}
-use Rattle.grow.proofs.AddTaxon.{cluster-fits, blank, first-room, first-is, second-room, second_is, third-room, third-is}
+use Rattle.grow.specs.Source.{trial_by, most_by}
+use Rattle.grow.proofs.AddTaxon.{cluster_fits, blank, first_room, first_is, second_room, second_is, third_room, third_is}
 use Rattle.grow.proofs.add_taxon.Statement.{statement}
 use Rattle.grow.proofs.add_taxon.Tie as tie
 
@@ -29,8 +29,8 @@ pass-requires c κs =
     let p = s.requires.0 in (
       (p.0, p.1, c.before.before.before.nearest.ensures, p.5, (roomy s).rows),
       (
-        cluster-fits a.n a.s (roomy s) p.0.few p.1 p.3 0 (omega arith),
-        first-room (trialBy a.kind a.n a.entries.now a.bytes.now) (mostBy a.kind) a.s s.requires.1 _ (blank a.s.taxa),
+        cluster_fits a.n a.s (roomy s) p.0.few p.1 p.3 0 (omega arith),
+        first_room (trial_by a.kind a.n a.entries.now a.bytes.now) (most_by a.kind) a.s s.requires.1 _ (blank a.s.taxa),
       ),
     )
 
@@ -41,9 +41,9 @@ offer-requires : tie.Need-offer-requires
 offer-requires c κs =
     let s = c.before.before.before.before.before.before.before.before.before.before in
     let a = s.args in
-    let first = first-is (trialBy a.kind a.n a.entries.now a.bytes.now) (mostBy a.kind) a.s s.requires.1 _ (blank a.s.taxa) _ c.before.before.before.pass.ensures in (
+    let first = first_is (trial_by a.kind a.n a.entries.now a.bytes.now) (most_by a.kind) a.s s.requires.1 _ (blank a.s.taxa) _ c.before.before.before.pass.ensures in (
       (s.requires.0.0, s.requires.0.1, c.before.before.before.before.before.before.before.nearest.ensures, s.requires.0.5),
-      second-room (trialBy a.kind a.n a.entries.now a.bytes.now) (mostBy a.kind) a.s s.requires.1 _ first _ _ c.before.before.before.before.before.before.single.ensures c.before.before.most.ensures,
+      second_room (trial_by a.kind a.n a.entries.now a.bytes.now) (most_by a.kind) a.s s.requires.1 _ first _ _ c.before.before.before.before.before.before.single.ensures c.before.before.most.ensures,
     )
 
 pass-requires-2 : tie.Need-pass-requires-2
@@ -52,12 +52,12 @@ pass-requires-2 c κs =
     let a = s.args in
     let p = s.requires.0 in
     let b = c.before.before.before.before.before.before.before.before.before.single.ensures in
-    let first = first-is (trialBy a.kind a.n a.entries.now a.bytes.now) (mostBy a.kind) a.s s.requires.1 _ (blank a.s.taxa) _ c.before.before.before.before.before.before.pass.ensures in
-    let second = second_is (trialBy a.kind a.n a.entries.now a.bytes.now) (mostBy a.kind) a.s s.requires.1 _ first _ _ b c.before.before.before.before.before.most.ensures _ c.before.before.offer.ensures in (
+    let first = first_is (trial_by a.kind a.n a.entries.now a.bytes.now) (most_by a.kind) a.s s.requires.1 _ (blank a.s.taxa) _ c.before.before.before.before.before.before.pass.ensures in
+    let second = second_is (trial_by a.kind a.n a.entries.now a.bytes.now) (most_by a.kind) a.s s.requires.1 _ first _ _ b c.before.before.before.before.before.most.ensures _ c.before.before.offer.ensures in (
       (p.0, p.1, c.before.before.before.before.before.before.before.before.before.before.nearest.ensures, p.5, (roomy s).rows),
       (
-        cluster-fits a.n a.s (roomy s) p.0.few p.1 p.3 _ (omega (arith, b)),
-        third-room (trialBy a.kind a.n a.entries.now a.bytes.now) (mostBy a.kind) a.s s.requires.1 _ second _ b,
+        cluster_fits a.n a.s (roomy s) p.0.few p.1 p.3 _ (omega (arith, b)),
+        third_room (trial_by a.kind a.n a.entries.now a.bytes.now) (most_by a.kind) a.s s.requires.1 _ second _ b,
       ),
     )
 
@@ -69,9 +69,9 @@ returns c =
     let s = c.before.before.before.before.before.before.before.before.before.before.before.before.before.before in
     let a = s.args in
     let b = c.before.before.before.before.before.before.before.before.before.before.single.ensures in
-    let first = first-is (trialBy a.kind a.n a.entries.now a.bytes.now) (mostBy a.kind) a.s s.requires.1 _ (blank a.s.taxa) _ c.before.before.before.before.before.before.before.pass.ensures in
-    let second = second_is (trialBy a.kind a.n a.entries.now a.bytes.now) (mostBy a.kind) a.s s.requires.1 _ first _ _ b c.before.before.before.before.before.before.most.ensures _ c.before.before.before.offer.ensures in
-    rw (add-one a.s.taxa) (third-is (trialBy a.kind a.n a.entries.now a.bytes.now) (mostBy a.kind) a.s s.requires.1 _ second _ b _ c.pass2.ensures)
+    let first = first_is (trial_by a.kind a.n a.entries.now a.bytes.now) (most_by a.kind) a.s s.requires.1 _ (blank a.s.taxa) _ c.before.before.before.before.before.before.before.pass.ensures in
+    let second = second_is (trial_by a.kind a.n a.entries.now a.bytes.now) (most_by a.kind) a.s s.requires.1 _ first _ _ b c.before.before.before.before.before.before.most.ensures _ c.before.before.before.offer.ensures in
+    rw (add-one a.s.taxa) (third_is (trial_by a.kind a.n a.entries.now a.bytes.now) (most_by a.kind) a.s s.requires.1 _ second _ b _ c.pass2.ensures)
 
 pub add-taxon-spec : {M : Type 1} → statement M
 add-taxon-spec =

@@ -8,15 +8,15 @@ use Rattle.statement.specs.Matrix.{distance}
 use Rattle.statement.specs.Growing.{cost}
 use Rattle.splits_list.proofs.Laws.{Roomy}
 use Rattle.lone_weights.specs.Lone.{Kept}
-use Rattle.grow.specs.Source.{mannerBy}
-use Rattle.grow.proofs.Sources.{Extending, extending, one-bare, given-room, again-roomy, again-well, cost-is, list-few, list-more, list_up, list-room, list-larger}
-use Rattle.grow.proofs.Going.{Going, going-from, going_done, going-short, going-turn, more-taxa}
+use Rattle.grow.specs.Source.{manner_by}
+use Rattle.grow.proofs.Sources.{Extending, extending, one_bare, given_room, again_roomy, again_well, cost_is, list_few, list_more, list_up, list_room, list_larger}
+use Rattle.grow.proofs.Going.{Going, going_from, going_done, going_short, going_turn, more_taxa}
 use Rattle.grow.proofs.grow_taxa.Statement.{statement}
 use Rattle.grow.proofs.grow_taxa.Tie as tie
 
 abbrev invariant-loop : tie.invariant-loop
 invariant-loop kind n entries bytes allowance t₀ left₀ spent₀ lone₀ sets₀ from₀ t left spent lone sets from =
-    Going (mannerBy kind n entries bytes) n allowance t₀ t left spent × Roomy t × (length lone ≡ 64) × (length sets ≡ 2016) × (from ≤ t.taxa)
+    Going (manner_by kind n entries bytes) n allowance t₀ t left spent × Roomy t × (length lone ≡ 64) × (length sets ≡ 2016) × (from ≤ t.taxa)
     × (kind ≡ 1 → Kept (distance n entries) from from lone)
 
 abbrev decreases-loop : tie.decreases-loop
@@ -28,7 +28,7 @@ loop-holds c =
     let a = s.args in
     let hc : length a.s.clusters ≡ 125 = search rules in
     let hw : length a.s.weights ≡ 125 = search rules in (
-      going-from (mannerBy a.kind a.n a.entries.now a.bytes.now) a.n a.allowance a.s s.requires.1,
+      going_from (manner_by a.kind a.n a.entries.now a.bytes.now) a.n a.allowance a.s s.requires.1,
       record { clusters = hc; weights = hw; rows = omega (arith, s.requires.1.few, s.requires.1.taxa, s.requires.0.few) },
       refl,
       refl,
@@ -45,9 +45,9 @@ parents-requires c κs =
       (
         omega (arith, c.if1.true, s.requires.0.few),
         omega (arith, w.few, w.taxa, s.requires.0.few),
-        one-bare a.kind a.n a.entries.now a.bytes.now s.requires.0 l.t c.if1.true w,
+        one_bare a.kind a.n a.entries.now a.bytes.now s.requires.0 l.t c.if1.true w,
       ),
-      given-room a.kind a.n a.entries.now a.bytes.now s.requires.0 l.t c.if1.true w,
+      given_room a.kind a.n a.entries.now a.bytes.now s.requires.0 l.t c.if1.true w,
     )
 
 -- the list of what is extended, and what it costs
@@ -59,16 +59,16 @@ few c =
     let l = c.before.before.before.loop in
     let s = c.before.before.before.before.before.before in
     let a = s.args in
-    list-few a.kind a.n a.entries.now a.bytes.now s.requires.0 l.t c.before.if1.true l.invariant.0.well _ (given c)
+    list_few a.kind a.n a.entries.now a.bytes.now s.requires.0 l.t c.before.if1.true l.invariant.0.well _ (given c)
 
 costs : (c : tie.After-parents invariant-loop decreases-loop)
     → let a = c.before.before.before.before.before.before.args in
-    2 * c.parents.result.rows + 1 ≡ cost (mannerBy a.kind a.n a.entries.now a.bytes.now) c.before.before.before.loop.t
+    2 * c.parents.result.rows + 1 ≡ cost (manner_by a.kind a.n a.entries.now a.bytes.now) c.before.before.before.loop.t
 costs c =
     let l = c.before.before.before.loop in
     let s = c.before.before.before.before.before.before in
     let a = s.args in
-    cost-is a.kind a.n a.entries.now a.bytes.now s.requires.0 l.t c.before.if1.true l.invariant.0.well _ (given c)
+    cost_is a.kind a.n a.entries.now a.bytes.now s.requires.0 l.t c.before.if1.true l.invariant.0.well _ (given c)
 
 mul-cost : tie.Need-overflow-mul-cost invariant-loop decreases-loop
 mul-cost c = omega (arith, few c)
@@ -80,7 +80,7 @@ returns : tie.Need-returns invariant-loop decreases-loop
 returns c =
     let l = c.before.before.before.before.loop in
     let a = c.before.before.before.before.before.before.before.args in
-    going-short (mannerBy a.kind a.n a.entries.now a.bytes.now) a.n a.allowance a.s l.t l.left l.spent l.invariant.0 c.before.before.if1.true
+    going_short (manner_by a.kind a.n a.entries.now a.bytes.now) a.n a.allowance a.s l.t l.left l.spent l.invariant.0 c.before.before.if1.true
     (omega (arith, costs c.before, c.if2.true))
 
 add-spent : tie.Need-overflow-add-spent invariant-loop decreases-loop
@@ -94,7 +94,7 @@ prepare-requires c κs =
     let a = s.args in (
       s.requires.0,
       omega (arith, l.invariant.4, (given p).taxa),
-      list-more a.kind a.n a.entries.now a.bytes.now s.requires.0 l.t p.before.if1.true l.invariant.0.well _ (given p),
+      list_more a.kind a.n a.entries.now a.bytes.now s.requires.0 l.t p.before.if1.true l.invariant.0.well _ (given p),
       l.invariant.2,
       l.invariant.3,
       l.invariant.5,
@@ -106,7 +106,7 @@ add-from c =
     let l = p.before.before.before.loop in
     let s = p.before.before.before.before.before.before in
     let a = s.args in
-    omega (arith, s.requires.0.few, list-more a.kind a.n a.entries.now a.bytes.now s.requires.0 l.t p.before.if1.true l.invariant.0.well _ (given p))
+    omega (arith, s.requires.0.few, list_more a.kind a.n a.entries.now a.bytes.now s.requires.0 l.t p.before.if1.true l.invariant.0.well _ (given p))
 
 add-taxon-requires : tie.Need-add-taxon-requires invariant-loop decreases-loop
 add-taxon-requires c κs =
@@ -118,13 +118,13 @@ add-taxon-requires c κs =
     let t = p.before.if1.true in (
       (
         s.requires.0,
-        list-more a.kind a.n a.entries.now a.bytes.now s.requires.0 l.t t l.invariant.0.well _ (given p),
+        list_more a.kind a.n a.entries.now a.bytes.now s.requires.0 l.t t l.invariant.0.well _ (given p),
         few p,
         list_up a.kind a.n a.entries.now a.bytes.now s.requires.0 l.t t l.invariant.0.well _ (given p),
         omega (arith, (given p).taxa, l.invariant.0.well.one),
         ready.prepare.ensures.2,
       ),
-      list-room a.kind a.n a.entries.now a.bytes.now s.requires.0 l.t t l.invariant.0.well _ (given p),
+      list_room a.kind a.n a.entries.now a.bytes.now s.requires.0 l.t t l.invariant.0.well _ (given p),
     )
 
 -- one taxon more
@@ -135,8 +135,8 @@ loop-less c =
     let s = p.before.before.before.before.before.before in
     let a = s.args in
     let t = p.before.if1.true in
-    let larger = list-larger a.kind a.n a.entries.now a.bytes.now s.requires.0 l.t t l.invariant.0.well _ (given p) in
-    omega (arith, more-taxa (mannerBy a.kind a.n a.entries.now a.bytes.now) a.n a.allowance a.s l.t l.left l.spent l.invariant.0 t _ (c.add-taxon.ensures ∙ larger))
+    let larger = list_larger a.kind a.n a.entries.now a.bytes.now s.requires.0 l.t t l.invariant.0.well _ (given p) in
+    omega (arith, more_taxa (manner_by a.kind a.n a.entries.now a.bytes.now) a.n a.allowance a.s l.t l.left l.spent l.invariant.0 t _ (c.add-taxon.ensures ∙ larger))
 
 loop-again : tie.Need-loop-preserved invariant-loop decreases-loop
 loop-again c =
@@ -146,16 +146,16 @@ loop-again c =
     let s = p.before.before.before.before.before.before in
     let a = s.args in
     let t = p.before.if1.true in
-    let larger = list-larger a.kind a.n a.entries.now a.bytes.now s.requires.0 l.t t l.invariant.0.well _ (given p) in
+    let larger = list_larger a.kind a.n a.entries.now a.bytes.now s.requires.0 l.t t l.invariant.0.well _ (given p) in
     let more = c.add-taxon.ensures ∙ larger in (
-      subst (λ (m : ℕ). Going (mannerBy a.kind a.n a.entries.now a.bytes.now) a.n a.allowance a.s c.add-taxon.result (l.left - m) (l.spent + m)) (sym (costs p))
-          (going-turn (mannerBy a.kind a.n a.entries.now a.bytes.now) a.n a.allowance a.s l.t l.left l.spent l.invariant.0 t _ more
+      subst (λ (m : ℕ). Going (manner_by a.kind a.n a.entries.now a.bytes.now) a.n a.allowance a.s c.add-taxon.result (l.left - m) (l.spent + m)) (sym (costs p))
+          (going_turn (manner_by a.kind a.n a.entries.now a.bytes.now) a.n a.allowance a.s l.t l.left l.spent l.invariant.0 t _ more
           (omega (arith, costs p, ready.before.before.before.if2.false))
-          (again-well a.kind a.n a.entries.now a.bytes.now s.requires.0 l.t t l.invariant.0.well)),
-      again-roomy a.kind a.n a.entries.now a.bytes.now s.requires.0 l.t t l.invariant.0.well _ more,
+          (again_well a.kind a.n a.entries.now a.bytes.now s.requires.0 l.t t l.invariant.0.well)),
+      again_roomy a.kind a.n a.entries.now a.bytes.now s.requires.0 l.t t l.invariant.0.well _ more,
       ready.prepare.ensures.0,
       ready.prepare.ensures.1,
-      omega (arith, (given p).taxa, more-taxa (mannerBy a.kind a.n a.entries.now a.bytes.now) a.n a.allowance a.s l.t l.left l.spent l.invariant.0 t _ more),
+      omega (arith, (given p).taxa, more_taxa (manner_by a.kind a.n a.entries.now a.bytes.now) a.n a.allowance a.s l.t l.left l.spent l.invariant.0 t _ more),
       ready.prepare.ensures.2.matrix,
     )
 
@@ -163,7 +163,7 @@ returns-2 : tie.Need-returns-2 invariant-loop decreases-loop
 returns-2 c =
     let l = c.before.before.loop in
     let a = c.before.before.before.before.before.args in
-    going_done (mannerBy a.kind a.n a.entries.now a.bytes.now) a.n a.allowance a.s l.t l.left l.spent l.invariant.0 c.if1.false
+    going_done (manner_by a.kind a.n a.entries.now a.bytes.now) a.n a.allowance a.s l.t l.left l.spent l.invariant.0 c.if1.false
 
 pub grow-taxa-spec : {M : Type 1} → statement M
 grow-taxa-spec =

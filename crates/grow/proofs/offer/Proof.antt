@@ -3,9 +3,9 @@ use Prim.Native.Nat.{suc, ◌<◌}
 use mathlib.Core.Path.{◌≡◌}
 use borrow.Author.Rules.{rules}
 use native.Mathlib.Omega.{arith}
-use Rattle.statement.specs.Rows.{listIn}
-use Rattle.grow.specs.Source.{trialBy}
-use Rattle.grow.proofs.Laws.{offer-kept, offer-none, offer-room}
+use Rattle.statement.specs.Rows.{list_in}
+use Rattle.grow.specs.Source.{trial_by}
+use Rattle.grow.proofs.Laws.{offer_kept, offer_none, offer_room}
 use Rattle.grow.proofs.offer.Statement.{statement}
 use Rattle.grow.proofs.offer.Tie as tie
 
@@ -14,7 +14,7 @@ try-split-requires c κs = c.before.before.requires.0
 
 said : (c : tie.After-try-split)
     → let a = c.before.before.before.args in
-    c.try-split.result ≡ trialBy a.kind a.n a.entries.now a.bytes.now (suc a.k) a.k a.c a.w
+    c.try-split.result ≡ trial_by a.kind a.n a.entries.now a.bytes.now (suc a.k) a.k a.c a.w
 said c = c.try-split.ensures
 
 -- there is room for a row that is kept
@@ -22,7 +22,7 @@ room : (c : tie.Then1) → c.before.before.before.before.args.rows < 125
 room c =
     let s = c.before.before.before.before in
     let a = s.args in
-    offer-room (trialBy a.kind a.n a.entries.now a.bytes.now (suc a.k) a.k) (listIn (suc a.k) a.rows a.clusters.now a.weights.now)
+    offer_room (trial_by a.kind a.n a.entries.now a.bytes.now (suc a.k) a.k) (list_in (suc a.k) a.rows a.clusters.now a.weights.now)
     a.c a.w _ (said c.before) c.if1.true s.requires.1
 
 mul-clusters : tie.Need-overflow-mul-clusters
@@ -43,13 +43,13 @@ add-result c = search rules
 returns : tie.Need-returns
 returns c =
     let a = c.before.before.before.before.args in
-    offer-kept (trialBy a.kind a.n a.entries.now a.bytes.now (suc a.k) a.k) (listIn (suc a.k) a.rows a.clusters.now a.weights.now)
+    offer_kept (trial_by a.kind a.n a.entries.now a.bytes.now (suc a.k) a.k) (list_in (suc a.k) a.rows a.clusters.now a.weights.now)
     a.c a.w _ (said c.before) c.if1.true
 
 returns-2 : tie.Need-returns-2
 returns-2 c =
     let a = c.before.before.before.before.args in
-    offer-none (trialBy a.kind a.n a.entries.now a.bytes.now (suc a.k) a.k) (listIn (suc a.k) a.rows a.clusters.now a.weights.now)
+    offer_none (trial_by a.kind a.n a.entries.now a.bytes.now (suc a.k) a.k) (list_in (suc a.k) a.rows a.clusters.now a.weights.now)
     a.c a.w _ (said c.before) c.if1.false
 
 pub offer-spec : {M : Type 1} → statement M

@@ -4,16 +4,16 @@ use native.Mathlib.Omega.{arith}
 use mathlib.Core.Path.{◌≡◌}
 use lib.ListN.{length}
 use borrow.Author.Rules.{rules}
-use Rattle.statement.specs.Rows.{listIn}
+use Rattle.statement.specs.Rows.{list_in}
 use Rattle.splits_list.proofs.Laws.{Roomy}
-use Rattle.grow.specs.Source.{trialBy}
-use Rattle.grow.proofs.Laws.{Passing, passing-from, passing-room, passing-turn, passing-end}
+use Rattle.grow.specs.Source.{trial_by}
+use Rattle.grow.proofs.Laws.{Passing, passing_from, passing_room, passing_turn, passing_end}
 use Rattle.grow.proofs.pass.Statement.{statement}
 use Rattle.grow.proofs.pass.Tie as tie
 
 abbrev invariant-loop : tie.invariant-loop
 invariant-loop kind n entries bytes k near lone sets b rows clusters₀ weights₀ old count₀ i₀ olds clusters weights count i =
-    Passing (trialBy kind n entries bytes (suc k) k) b old (listIn (suc k) rows clusters₀ weights₀) (listIn (suc k) count clusters weights) i
+    Passing (trial_by kind n entries bytes (suc k) k) b old (list_in (suc k) rows clusters₀ weights₀) (list_in (suc k) count clusters weights) i
 
 abbrev decreases-loop : tie.decreases-loop
 decreases-loop kind n entries bytes k near lone sets b rows clusters₀ weights₀ old count₀ i₀ olds clusters weights count i = olds - i
@@ -28,7 +28,7 @@ loop-holds : tie.Need-loop-init invariant-loop decreases-loop
 loop-holds c =
     let s = c.before.before in
     let a = s.args in
-    passing-from (trialBy a.kind a.n a.entries.now a.bytes.now (suc a.k) a.k) a.b a.t9 (listIn (suc a.k) a.rows a.clusters.now a.weights.now) s.requires.1.1
+    passing_from (trial_by a.kind a.n a.entries.now a.bytes.now (suc a.k) a.k) a.b a.t9 (list_in (suc a.k) a.rows a.clusters.now a.weights.now) s.requires.1.1
 
 mul-offer : tie.Need-overflow-mul-offer invariant-loop decreases-loop
 mul-offer c = search rules
@@ -51,8 +51,8 @@ offer-requires c κs =
     let s = l.before.before.before in
     let a = s.args in (
       (s.requires.0.0, s.requires.0.1, s.requires.0.2, s.requires.0.3),
-      passing-room (trialBy a.kind a.n a.entries.now a.bytes.now (suc a.k) a.k) a.b a.t9 (listIn (suc a.k) a.rows a.clusters.now a.weights.now)
-          (listIn (suc a.k) l.loop.count l.loop.clusters l.loop.weights) l.loop.i (roomy s) c.before.before.before.before.loop-test.true l.loop.invariant,
+      passing_room (trial_by a.kind a.n a.entries.now a.bytes.now (suc a.k) a.k) a.b a.t9 (list_in (suc a.k) a.rows a.clusters.now a.weights.now)
+          (list_in (suc a.k) l.loop.count l.loop.clusters l.loop.weights) l.loop.i (roomy s) c.before.before.before.before.loop-test.true l.loop.invariant,
     )
 
 add-i : tie.Need-overflow-add-i invariant-loop decreases-loop
@@ -66,8 +66,8 @@ loop-again c =
     let l = c.before.before.before.before.before.before in
     let s = l.before.before.before in
     let a = s.args in
-    passing-turn (trialBy a.kind a.n a.entries.now a.bytes.now (suc a.k) a.k) a.b a.t9 (listIn (suc a.k) a.rows a.clusters.now a.weights.now)
-    (listIn (suc a.k) l.loop.count l.loop.clusters l.loop.weights) l.loop.i (roomy s) c.before.before.before.before.before.loop-test.true l.loop.invariant _ c.offer.ensures
+    passing_turn (trial_by a.kind a.n a.entries.now a.bytes.now (suc a.k) a.k) a.b a.t9 (list_in (suc a.k) a.rows a.clusters.now a.weights.now)
+    (list_in (suc a.k) l.loop.count l.loop.clusters l.loop.weights) l.loop.i (roomy s) c.before.before.before.before.before.loop-test.true l.loop.invariant _ c.offer.ensures
 
 returns : tie.Need-returns invariant-loop decreases-loop
 returns c =
@@ -75,8 +75,8 @@ returns c =
     let s = l.before.before.before in
     let a = s.args in
     let e : l.loop.i ≡ a.t9.rows = omega (arith, l.loop.invariant.low) in
-    passing-end (trialBy a.kind a.n a.entries.now a.bytes.now (suc a.k) a.k) a.b a.t9 (listIn (suc a.k) a.rows a.clusters.now a.weights.now)
-    (listIn (suc a.k) l.loop.count l.loop.clusters l.loop.weights) l.loop.i (roomy s) e l.loop.invariant
+    passing_end (trial_by a.kind a.n a.entries.now a.bytes.now (suc a.k) a.k) a.b a.t9 (list_in (suc a.k) a.rows a.clusters.now a.weights.now)
+    (list_in (suc a.k) l.loop.count l.loop.clusters l.loop.weights) l.loop.i (roomy s) e l.loop.invariant
 
 pub pass_spec : {M : Type 1} → statement M
 pass_spec =

@@ -4,8 +4,8 @@ use native.Mathlib.Numerals.{add-one}
 use native.Mathlib.Omega.{arith}
 use mathlib.Core.Path.{sym, ◌∙◌, ap}
 use Rattle.statement.specs.Matrix.{distance}
-use Rattle.statement.specs.Growing.{matrixTrial}
-use Rattle.grow.proofs.Sources.{by-matrix, by-table}
+use Rattle.statement.specs.Growing.{matrix_trial}
+use Rattle.grow.proofs.Sources.{by_matrix_law, by_table_law}
 use Rattle.grow.proofs.try_split.Statement.{statement}
 use Rattle.grow.proofs.try_split.Tie as tie
 
@@ -22,8 +22,8 @@ returns c =
     let s = c.before.before.before.before in
     let a = s.args in
     c.trial.ensures
-    ∙ ap (λ (m : ℕ). matrixTrial (distance a.n a.entries.now) m a.k a.c a.w) (add-one a.k)
-    ∙ ap (λ (f : ℕ → ℕ → ℕ → ℕ → ℕ). f (suc a.k) a.k a.c a.w) (sym (by-matrix a.kind a.n a.entries.now a.bytes.now c.before.if1.true))
+    ∙ ap (λ (m : ℕ). matrix_trial (distance a.n a.entries.now) m a.k a.c a.w) (add-one a.k)
+    ∙ ap (λ (f : ℕ → ℕ → ℕ → ℕ → ℕ). f (suc a.k) a.k a.c a.w) (sym (by_matrix_law a.kind a.n a.entries.now a.bytes.now c.before.if1.true))
 
 trial-requires-2 : tie.Need-trial-requires-2
 trial-requires-2 c κs = let p = c.before.before.before.requires in (p.1, p.0.few, p.3.table c.if1.false)
@@ -33,7 +33,7 @@ returns-2 c =
     let s = c.before.before.before.before in
     let a = s.args in
     c.trial2.ensures
-    ∙ ap (λ (f : ℕ → ℕ → ℕ → ℕ → ℕ). f (suc a.k) a.k a.c a.w) (sym (by-table a.kind a.n a.entries.now a.bytes.now c.before.if1.false))
+    ∙ ap (λ (f : ℕ → ℕ → ℕ → ℕ → ℕ). f (suc a.k) a.k a.c a.w) (sym (by_table_law a.kind a.n a.entries.now a.bytes.now c.before.if1.false))
 
 pub try-split-spec : {M : Type 1} → statement M
 try-split-spec = tie.close (tie.spec add-trial trial-requires returns trial-requires-2 returns-2)

@@ -6,10 +6,10 @@ use mathlib.Core.List.{List}
 use lib.ListN.{length}
 use borrow.Author.Rules.{rules}
 use Rattle.statement.specs.Refusals.{number_of}
-use Rattle.statement.specs.Bytes.{fromBytes}
-use Rattle.statement.specs.Calls.{runMatrix, runTable}
+use Rattle.statement.specs.Bytes.{from_bytes}
+use Rattle.statement.specs.Calls.{run_matrix, run_table}
 use Rattle.record_find.proofs.Found.{Found}
-use Rattle.job.proofs.Jobs.{job-refused, job-found, job-body, job-matrix, job-table}
+use Rattle.job.proofs.Jobs.{job_refused, job_found, job_body, job_matrix, job_table}
 use Rattle.job.proofs.run_record.Statement.{statement}
 use Rattle.job.proofs.run_record.Tie as tie
 
@@ -26,14 +26,14 @@ returns : tie.Need-returns
 returns c =
     let found = c.before.before.before in
     let b = found.before.before.args.bytes.now in
-    job-refused b _ found.find-taken.ensures _ c.empty.ensures (λ e. c.before.if1.true (c.before.before.number_of_lem.ensures ∙ e))
+    job_refused b _ found.find-taken.ensures _ c.empty.ensures (λ e. c.before.if1.true (c.before.before.number_of_lem.ensures ∙ e))
 
 -- the number is 0
 none : (c : tie.Else1) → number_of c.before.before.find-taken.result ≡ 0
 none c = sym c.before.number_of_lem.ensures ∙ c.if1.false
 
 found : (c : tie.Else1) → Found c.before.before.before.before.args.bytes.now
-found c = job-found _ _ c.before.before.find-taken.ensures (none c)
+found c = job_found _ _ c.before.before.find-taken.ensures (none c)
 
 shared-slice-read-vertex : tie.Need-shared-slice-read-vertex
 shared-slice-read-vertex c = omega (arith, (found c.before).header)
@@ -53,7 +53,7 @@ run-body-requires c κs =
     let v = c.before.before.before.vertex.ensures in
     let f = found e in (
       omega (arith, v, f.taxa),
-      ap length c.before.before.body_of.ensures.0 ∙ job-body _ _ e.before.before.find-taken.ensures (none e) c.if2.true
+      ap length c.before.before.body_of.ensures.0 ∙ job_body _ _ e.before.before.find-taken.ensures (none e) c.if2.true
           ∙ ap (λ (m : ℕ). 4 * (m * m)) (sym v),
     )
 
@@ -61,8 +61,8 @@ returns-2 : tie.Need-returns-2
 returns-2 c =
     let e = c.before.before.before.before.before.before in
     c.run-body.ensures
-    ∙ ap₂ (λ (m : ℕ) (b : List ℕ). runMatrix m (fromBytes b)) c.before.before.before.before.vertex.ensures c.before.before.before.body_of.ensures.0
-    ∙ job-matrix _ _ e.before.before.find-taken.ensures (none e) c.before.if2.true
+    ∙ ap₂ (λ (m : ℕ) (b : List ℕ). run_matrix m (from_bytes b)) c.before.before.before.before.vertex.ensures c.before.before.before.body_of.ensures.0
+    ∙ job_matrix _ _ e.before.before.find-taken.ensures (none e) c.before.if2.true
 
 run-table-requires : tie.Need-run-table-requires
 run-table-requires c κs = search rules
@@ -71,8 +71,8 @@ returns-3 : tie.Need-returns-3
 returns-3 c =
     let e = c.before.before.before.before.before.before in
     c.run-table.ensures
-    ∙ ap₂ runTable c.before.before.before.before.vertex.ensures c.before.before.before.body_of.ensures.0
-    ∙ job-table _ _ e.before.before.find-taken.ensures (none e) c.before.if2.false
+    ∙ ap₂ run_table c.before.before.before.before.vertex.ensures c.before.before.before.body_of.ensures.0
+    ∙ job_table _ _ e.before.before.find-taken.ensures (none e) c.before.if2.false
 
 pub run-record-spec : {M : Type 1} → statement M
 run-record-spec =

@@ -5,7 +5,7 @@ use mathlib.Core.Path.{◌≡◌}
 use borrow.Author.Rules.{rules}
 use Rattle.statement.specs.Matrix.{distance}
 use Rattle.lone_weights.specs.Lowering.{Row}
-use Rattle.lone_weights.proofs.Lowering.{row-none, row-turn}
+use Rattle.lone_weights.proofs.Lowering.{row_none, row_turn}
 use Rattle.lone_weights.proofs.row.Statement.{statement}
 use Rattle.lone_weights.proofs.row.Tie as tie
 
@@ -16,7 +16,7 @@ abbrev decreases-loop : tie.decreases-loop
 decreases-loop n entries v z m low₀ y₀ low y = m - y
 
 loop-holds : tie.Need-loop-init invariant-loop decreases-loop
-loop-holds c = (omega arith, row-none _ _ _)
+loop-holds c = (omega arith, row_none _ _ _)
 
 term-requires : tie.Need-term-requires invariant-loop decreases-loop
 term-requires c κs = search rules
@@ -34,7 +34,7 @@ loop-again : tie.Need-loop-preserved invariant-loop decreases-loop
 loop-again c =
     let t = c.before in
     let l = t.before.before in
-    (omega arith, row-turn _ _ _ l.loop.y l.loop.invariant.1 t.term.ensures c.least.ensures)
+    (omega arith, row_turn _ _ _ l.loop.y l.loop.invariant.1 t.term.ensures c.least.ensures)
 
 returns : tie.Need-returns invariant-loop decreases-loop
 returns c =

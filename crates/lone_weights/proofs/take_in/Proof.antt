@@ -8,7 +8,7 @@ use borrow.Author.Rules.{rules}
 use Rattle.statement.specs.Matrix.{distance}
 use Rattle.bits.proofs.Stored.{stored}
 use Rattle.lone_weights.specs.Lone.{Lone}
-use Rattle.lone_weights.proofs.Lowering.{lone-most, lone-earlier, Taking, taking-from, taking-turn}
+use Rattle.lone_weights.proofs.Lowering.{lone_most, lone_earlier, Taking, taking_from, taking_turn}
 use Rattle.lone_weights.proofs.take_in.Statement.{statement}
 use Rattle.lone_weights.proofs.take_in.Tie as tie
 
@@ -19,7 +19,7 @@ abbrev decreases-loop : tie.decreases-loop
 decreases-loop n entries j lone₀ v₀ lone v = j - v
 
 loop-holds : tie.Need-loop-init invariant-loop decreases-loop
-loop-holds c = let p = c.before.requires in (omega arith, p.2, taking-from _ _ _ p.3)
+loop-holds c = let p = c.before.requires in (omega arith, p.2, taking_from _ _ _ p.3)
 
 mul-lower : tie.Need-overflow-mul-lower invariant-loop decreases-loop
 mul-lower c = search rules
@@ -31,7 +31,7 @@ lower-requires : tie.Need-lower-requires invariant-loop decreases-loop
 lower-requires c κs =
     let l = c.before.before in
     let s = l.before.before in
-    (s.requires.0, omega arith, s.requires.1, omega arith, lone-most (l.loop.invariant.2.left l.loop.v (le_refl l.loop.v) c.before.loop-test.true))
+    (s.requires.0, omega arith, s.requires.1, omega arith, lone_most (l.loop.invariant.2.left l.loop.v (le_refl l.loop.v) c.before.loop-test.true))
 
 mul-lone : tie.Need-overflow-mul-lone invariant-loop decreases-loop
 mul-lone c = search rules
@@ -55,8 +55,8 @@ loop-again c =
     let room : i.v < length i.lone = omega (arith, i.invariant.1, s.requires.0.few) in (
       omega arith,
       simp length-set i.invariant.1,
-      taking-turn _ a.j i.lone i.v c.lower.result room i.invariant.2
-          (lone-earlier a.n a.entries.now s.requires.0 a.j s.requires.1 i.v t (i.invariant.2.left i.v (le_refl i.v) t) c.lower.ensures),
+      taking_turn _ a.j i.lone i.v c.lower.result room i.invariant.2
+          (lone_earlier a.n a.entries.now s.requires.0 a.j s.requires.1 i.v t (i.invariant.2.left i.v (le_refl i.v) t) c.lower.ensures),
     )
 
 newcomer-requires : tie.Need-newcomer-requires invariant-loop decreases-loop

@@ -5,7 +5,7 @@ use mathlib.Core.Path.{◌∙◌}
 use mir.Syntax.{w64}
 use mir.ValLaws.{to_z-of_z}
 use borrow.Author.Rules.{rules}
-use Rattle.matrix.proofs.Signs.{difference, difference-fits}
+use Rattle.matrix.proofs.Signs.{difference, difference_fits}
 use Rattle.matrix.proofs.less.Statement.{statement}
 use Rattle.matrix.proofs.less.Tie as tie
 
@@ -19,7 +19,7 @@ small : (c : tie.Start) → (c.args.p < 2 ^ 63) × (c.args.q < 2 ^ 63)
 small c = omega arith
 
 sub-result : tie.Need-overflow-sub-result
-sub-result c = difference-fits _ _ (small c).0 (small c).1
+sub-result c = difference_fits _ _ (small c).0 (small c).1
 
 returns : tie.Need-returns
 returns c = to_z-of_z w64 _ (sub-result c) ∙ difference _ _ (small c).0 (small c).1

@@ -10,7 +10,7 @@ use mir.Val.{Fits, to_z, of_z}
 use mir.ValLaws.{to_z-of_z}
 use borrow.Author.Rules.{rules}
 use Rattle.statement.specs.Growing.{above}
-use Rattle.matrix.proofs.Signs.{signed, at_least, positive, not-positive}
+use Rattle.matrix.proofs.Signs.{signed, at_least, positive, not_positive}
 use Rattle.matrix.proofs.lowered.Statement.{statement}
 use Rattle.matrix.proofs.lowered.Tie as tie
 
@@ -48,7 +48,7 @@ returns-2 c = ap nat_abs (exact c.before.before.before) ∙ (weight c).1
 returns-3 : tie.Need-returns-3
 returns-3 c =
     let a = c.before.before.before.args in
-    not-positive a.score a.best (sign c.before ∙ c.if2.false)
+    not_positive a.score a.best (sign c.before ∙ c.if2.false)
 
 pub lowered-spec : {M : Type 1} → statement M
 lowered-spec =

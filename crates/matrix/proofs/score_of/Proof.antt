@@ -4,7 +4,7 @@ use mir.Syntax.{w64}
 use mir.ValLaws.{to_z-of_z}
 use borrow.Author.Rules.{rules, sfits_of}
 use Rattle.statement.specs.Matrix.{distance}
-use Rattle.matrix.proofs.Signs.{score-is}
+use Rattle.matrix.proofs.Signs.{score_is}
 use Rattle.matrix.proofs.score_of.Statement.{statement}
 use Rattle.matrix.proofs.score_of.Tie as tie
 
@@ -52,7 +52,7 @@ returns c =
     let a = wy.before.before.args in
     to_z-of_z w64 _ (sfits_of c.less.type-inv)
     ∙ c.less.ensures
-    ∙ score-is (distance a.n a.entries.now) a.w a.x a.y a.z wy.at.ensures.0 xz.at2.ensures.0 wz.at3.ensures.0
+    ∙ score_is (distance a.n a.entries.now) a.w a.x a.y a.z wy.at.ensures.0 xz.at2.ensures.0 wz.at3.ensures.0
     xy.at4.ensures.0 wx.at5.ensures.0 yz.at6.ensures.0 c.before.least.ensures
 
 pub score-of-spec : {M : Type 1} → statement M

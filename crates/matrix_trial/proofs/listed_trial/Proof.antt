@@ -1,6 +1,6 @@
 -- `matrix_trial::listed_trial` meets its contract: a four with the nearest neighbour fails it, or the sweep decides. Assumes nothing.
 use Rattle.statement.specs.Matrix.{distance}
-use Rattle.neighbours.proofs.Looks.{fails-zero}
+use Rattle.neighbours.proofs.Looks.{fails_zero}
 use borrow.Author.Rules.{rules}
 use Rattle.matrix_trial.proofs.listed_trial.Statement.{statement}
 use Rattle.matrix_trial.proofs.listed_trial.Tie as tie
@@ -11,7 +11,7 @@ fails-first-requires c κs = search rules
 returns : tie.Need-returns
 returns c =
     let a = c.before.before.before.args in
-    fails-zero a.n (distance a.n a.entries.now) a.k a.a a.c a.w (c.before.fails-first.ensures c.if1.true)
+    fails_zero a.n (distance a.n a.entries.now) a.k a.a a.c a.w (c.before.fails-first.ensures c.if1.true)
 
 is-alone-requires : tie.Need-is-alone-requires
 is-alone-requires c κs = search rules
@@ -25,7 +25,7 @@ fails-near-requires c κs = search rules
 returns-2 : tie.Need-returns-2
 returns-2 c =
     let a = c.before.before.before.before.before.before.before.before.args in
-    fails-zero a.n (distance a.n a.entries.now) a.k a.a a.c a.w (c.before.fails-near.ensures c.if2.true)
+    fails_zero a.n (distance a.n a.entries.now) a.k a.a a.c a.w (c.before.fails-near.ensures c.if2.true)
 
 sweep-requires : tie.Need-sweep-requires
 sweep-requires c κs = search rules

@@ -5,7 +5,7 @@ use mathlib.Core.Path.{◌≡◌}
 use borrow.Author.Rules.{rules}
 use Rattle.statement.specs.Matrix.{distance}
 use Rattle.matrix_trial.specs.Separated.{Paired}
-use Rattle.matrix_trial.proofs.Separated.{paired_none, paired-turn}
+use Rattle.matrix_trial.proofs.Separated.{paired_none, paired_turn}
 use Rattle.matrix_trial.proofs.pairs.Statement.{statement}
 use Rattle.matrix_trial.proofs.pairs.Tie as tie
 
@@ -50,7 +50,7 @@ loop-again : tie.Need-loop-preserved invariant-loop decreases-loop
 loop-again c =
     let p = c.before in
     let l = p.before.before.before.before in
-    (omega arith, paired-turn _ _ _ _ _ _ l.loop.j l.loop.invariant.1 p.pair.ensures c.least.ensures)
+    (omega arith, paired_turn _ _ _ _ _ _ l.loop.j l.loop.invariant.1 p.pair.ensures c.least.ensures)
 
 returns : tie.Need-returns invariant-loop decreases-loop
 returns c =

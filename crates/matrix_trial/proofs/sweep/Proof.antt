@@ -6,9 +6,9 @@ use lib.ListN.{length, set, length-set}
 use borrow.Author.Rules.{rules}
 use Rattle.statement.specs.Matrix.{distance}
 use Rattle.matrix_trial.specs.Separated.{Reached, Swept}
-use Rattle.neighbours.proofs.Reaches.{reach-cap}
-use Rattle.matrix_trial.proofs.Sides.{partners-most}
-use Rattle.matrix_trial.proofs.Separated.{reached-turn, swept_none, swept-turn, swept_all, swept-zero}
+use Rattle.neighbours.proofs.Reaches.{reach_cap}
+use Rattle.matrix_trial.proofs.Sides.{partners_most}
+use Rattle.matrix_trial.proofs.Separated.{reached_turn, swept_none, swept_turn, swept_all, swept_zero}
 use Rattle.matrix_trial.proofs.sweep.Statement.{statement}
 use Rattle.matrix_trial.proofs.sweep.Tie as tie
 
@@ -64,7 +64,7 @@ with-next c =
     let s = l.before.before in
     let a = s.args in
     let room : l.loop.i < length l.loop.reaches = omega (arith, l.loop.invariant.1, s.requires.3.few, s.requires.0.few) in
-    reached-turn (distance a.n a.entries.now) a.k a.a a.c a.taxa.now l.loop.reaches l.loop.i c.reach.result l.loop.invariant.2 room c.reach.ensures
+    reached_turn (distance a.n a.entries.now) a.k a.a a.c a.taxa.now l.loop.reaches l.loop.i c.reach.result l.loop.invariant.2 room c.reach.ensures
 
 pairs-requires : tie.Need-pairs-requires invariant-loop decreases-loop
 pairs-requires c κs =
@@ -72,9 +72,9 @@ pairs-requires c κs =
     let r = q.before in
     let l = r.before.before.before in
     let s = l.before.before in
-    let few = partners-most s.args.count l.loop.i q.partners.result q.partners.ensures in (
-      (s.requires.0, omega arith, omega (arith, (s.requires.3.each l.loop.i r.before.before.loop-test.true).0), reach-cap r.reach.ensures, omega (arith, few, s.requires.3.few, s.requires.0.few)),
-      λ j lj. (omega (arith, few, (s.requires.3.each j (omega (arith, few))).0), reach-cap (with-next r j (omega (arith, few)))),
+    let few = partners_most s.args.count l.loop.i q.partners.result q.partners.ensures in (
+      (s.requires.0, omega arith, omega (arith, (s.requires.3.each l.loop.i r.before.before.loop-test.true).0), reach_cap r.reach.ensures, omega (arith, few, s.requires.3.few, s.requires.0.few)),
+      λ j lj. (omega (arith, few, (s.requires.3.each j (omega (arith, few))).0), reach_cap (with-next r j (omega (arith, few)))),
     )
 
 lowered-over-requires : tie.Need-lowered-over-requires invariant-loop decreases-loop
@@ -95,7 +95,7 @@ next c =
     let l = r.before.before.before in
     let s = l.before.before in
     let a = s.args in
-    swept-turn a.n a.entries.now s.requires.0 a.k a.a a.c s.requires.1 s.requires.2 a.taxa.now a.count a.w
+    swept_turn a.n a.entries.now s.requires.0 a.k a.a a.c s.requires.1 s.requires.2 a.taxa.now a.count a.w
     (set l.loop.reaches l.loop.i r.reach.result) l.loop.i q.partners.result s.requires.3 r.before.before.loop-test.true q.partners.ensures
     r.reach.ensures (with-next r) l.loop.invariant.3 p.pairs.ensures c.lowered-over.ensures
 
@@ -104,7 +104,7 @@ returns c =
     let l = loop-of c.before in
     let s = l.before.before in
     let a = s.args in
-    swept-zero a.n a.entries.now s.pre.0 a.k a.a a.c s.pre.1 s.pre.2 a.taxa.now a.count a.w s.pre.3 (next c.before) (omega arith)
+    swept_zero a.n a.entries.now s.pre.0 a.k a.a a.c s.pre.1 s.pre.2 a.taxa.now a.count a.w s.pre.3 (next c.before) (omega arith)
     c.if1.true
 
 add-i : tie.Need-overflow-add-i invariant-loop decreases-loop

@@ -2,9 +2,9 @@
 use native.Mathlib.Omega.{arith}
 use mathlib.Core.Path.{◌∙◌}
 use borrow.Author.Rules.{rules}
-use Rattle.statement.proofs.Single.{pow-single}
-use Rattle.lone_weights.proofs.Trials.{lone-trial}
-use Rattle.matrix_trial.proofs.Sides.{trial-two, trial-one, trial-more}
+use Rattle.statement.proofs.Single.{pow_single}
+use Rattle.lone_weights.proofs.Trials.{lone_trial}
+use Rattle.matrix_trial.proofs.Sides.{trial_two, trial_one, trial_more}
 use Rattle.matrix_trial.proofs.trial.Statement.{statement}
 use Rattle.matrix_trial.proofs.trial.Tie as tie
 
@@ -28,7 +28,7 @@ returns c =
     let a = s.args in
     let (three, is) = v.lone_of.ensures t.if1.true in
     c.least.ensures
-    ∙ lone-trial a.n a.entries.now s.requires.0 a.k a.a a.c a.w _ _ s.requires.1 three t.if1.true (pow-single a.k a.c _ is) (s.requires.4 _ t.if1.true)
+    ∙ lone_trial a.n a.entries.now s.requires.0 a.k a.a a.c a.w _ _ s.requires.1 three t.if1.true (pow_single a.k a.c _ is) (s.requires.4 _ t.if1.true)
 
 members-requires : tie.Need-members-requires
 members-requires c κs = search rules
@@ -42,7 +42,7 @@ returns-2 c =
     let m = t.before in
     let s = m.before.before.before.before.before in
     let a = s.args in
-    trial-two a.n a.entries.now s.requires.0 a.k a.a a.c a.w s.requires.1 s.requires.2 _ _ m.members.ensures t.if2.true c.listed-trial.ensures
+    trial_two a.n a.entries.now s.requires.0 a.k a.a a.c a.w s.requires.1 s.requires.2 _ _ m.members.ensures t.if2.true c.listed-trial.ensures
 
 array-read-least : tie.Need-array-read-least
 array-read-least c = search rules
@@ -68,7 +68,7 @@ returns-3 c =
     let m = t.before.before in
     let s = m.before.before.before.before.before in
     let a = s.args in
-    trial-one a.n a.entries.now s.requires.0 a.k a.a a.c a.w s.requires.1 s.requires.2 _ _ m.members.ensures a.lone.now t.before.if2.false t.if3.true
+    trial_one a.n a.entries.now s.requires.0 a.k a.a a.c a.w s.requires.1 s.requires.2 _ _ m.members.ensures a.lone.now t.before.if2.false t.if3.true
     s.requires.4 c.least2.ensures
 
 listed-trial-requires-2 : tie.Need-listed-trial-requires-2
@@ -80,7 +80,7 @@ returns-4 c =
     let m = left.before.before in
     let s = m.before.before.before.before.before in
     let a = s.args in
-    trial-more a.n a.entries.now s.requires.0 a.k a.a a.c a.w s.requires.1 s.requires.2 _ _ m.members.ensures left.if3.false c.listed-trial2.ensures
+    trial_more a.n a.entries.now s.requires.0 a.k a.a a.c a.w s.requires.1 s.requires.2 _ _ m.members.ensures left.if3.false c.listed-trial2.ensures
 
 pub trial-spec : {M : Type 1} → statement M
 trial-spec =

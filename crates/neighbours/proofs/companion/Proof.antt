@@ -2,7 +2,7 @@
 use native.Mathlib.Omega.{arith}
 use lib.Count.{trailing_le}
 use borrow.Author.Rules.{rules}
-use Rattle.neighbours.proofs.Reaches.{own-beside}
+use Rattle.neighbours.proofs.Reaches.{own_beside}
 use Rattle.neighbours.proofs.companion.Statement.{statement}
 use Rattle.neighbours.proofs.companion.Tie as tie
 
@@ -19,7 +19,7 @@ beside-requires : tie.Need-beside-requires
 beside-requires c κs = search rules
 
 returns-2 : tie.Need-returns-2
-returns-2 c = let a = c.before.before.before.before.args in λ _. own-beside a.k a.a a.c _ c.before.beside.ensures c.if2.true
+returns-2 c = let a = c.before.before.before.before.args in λ _. own_beside a.k a.a a.c _ c.before.beside.ensures c.if2.true
 
 returns-3 : tie.Need-returns-3
 returns-3 c = search rules

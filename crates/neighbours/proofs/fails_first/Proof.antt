@@ -2,7 +2,7 @@
 use native.Mathlib.Omega.{arith}
 use mathlib.Core.Path.{sym}
 use mathlib.Core.Bool.{true≢false}
-use Rattle.statement.proofs.Parts.{off-side}
+use Rattle.statement.proofs.Parts.{off_side}
 use borrow.Author.Rules.{rules}
 use Rattle.neighbours.proofs.fails_first.Statement.{statement}
 use Rattle.neighbours.proofs.fails_first.Tie as tie
@@ -25,7 +25,7 @@ fails-with-xy-requires c κs =
     let a = s.args in
     let p = s.requires in (
       (p.0, p.1, p.2, c.if2.true, p.3, omega (arith, p.4.few, p.1, p.0.few)),
-      (x.companion.ensures c.if2.true, off-side a.c a.a a.near side.same-side.ensures left.if1.false, p.4.each),
+      (x.companion.ensures c.if2.true, off_side a.c a.a a.near side.same-side.ensures left.if1.false, p.4.each),
     )
 
 returns-2 : tie.Need-returns-2

@@ -7,7 +7,7 @@ use mir.ValLaws.{to_z-of_z}
 use borrow.Author.Rules.{rules, sfits_of}
 use borrow.Author.Tests.{not-true}
 use Rattle.statement.specs.Matrix.{distance}
-use Rattle.neighbours.proofs.Looks.{four-fails}
+use Rattle.neighbours.proofs.Looks.{four_fails}
 use Rattle.neighbours.proofs.fails_four.Statement.{statement}
 use Rattle.neighbours.proofs.fails_four.Tie as tie
 
@@ -28,7 +28,7 @@ returns-2 c r =
     let a = s.args in
     let p = s.requires.0 in
     let q = s.requires.1 in
-    four-fails (distance a.n a.entries.now) a.k a.a a.c a.x a.y a.z p.3 p.4 p.5 q.0 q.1 q.2 (λ e. left.if1.false (sym e))
+    four_fails (distance a.n a.entries.now) a.k a.a a.c a.x a.y a.z p.3 p.4 p.5 q.0 q.1 q.2 (λ e. left.if1.false (sym e))
     (to_z-of_z w64 _ (sfits_of scored.score-of.type-inv) ∙ scored.score-of.ensures) c.supports.ensures (not-true _ r)
 
 pub fails-four-spec : {M : Type 1} → statement M

@@ -1,7 +1,7 @@
 -- `neighbours::fails_near` meets its contract: the nearest neighbour is a itself, or on one of the two sides. Assumes nothing.
 use mathlib.Core.Path.{sym}
 use mathlib.Core.Bool.{true≢false}
-use Rattle.statement.proofs.Parts.{on-side, off-side}
+use Rattle.statement.proofs.Parts.{on_side, off_side}
 use borrow.Author.Rules.{rules}
 use Rattle.neighbours.proofs.fails_near.Statement.{statement}
 use Rattle.neighbours.proofs.fails_near.Tie as tie
@@ -18,7 +18,7 @@ fails-with-x-requires c κs =
     let s = other.before.before in
     let a = s.args in
     let p = s.requires in
-    (p.0, p.1, p.2, p.3, (on-side a.c a.a a.near c.before.same-side.ensures c.if2.true, λ e. absurd (other.if1.false (sym e))), p.4)
+    (p.0, p.1, p.2, p.3, (on_side a.c a.a a.near c.before.same-side.ensures c.if2.true, λ e. absurd (other.if1.false (sym e))), p.4)
 
 returns-2 : tie.Need-returns-2
 returns-2 c = search rules
@@ -28,7 +28,7 @@ fails-with-z-requires c κs =
     let s = c.before.before.before.before in
     let a = s.args in
     let p = s.requires in
-    (p.0, p.1, p.2, p.3, off-side a.c a.a a.near c.before.same-side.ensures c.if2.false, p.4, p.5)
+    (p.0, p.1, p.2, p.3, off_side a.c a.a a.near c.before.same-side.ensures c.if2.false, p.4, p.5)
 
 returns-3 : tie.Need-returns-3
 returns-3 c = search rules

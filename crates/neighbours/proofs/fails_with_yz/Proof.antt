@@ -6,8 +6,8 @@ use mir.Syntax.{w64}
 use mir.ValLaws.{to_z-of_z}
 use borrow.Author.Rules.{rules, sfits_of}
 use borrow.Author.Tests.{not-true}
-use Rattle.neighbours.proofs.Reaches.{reach-cap}
-use Rattle.neighbours.proofs.Looks.{half-fails}
+use Rattle.neighbours.proofs.Reaches.{reach_cap}
+use Rattle.neighbours.proofs.Looks.{half_fails}
 use Rattle.neighbours.proofs.fails_with_yz.Statement.{statement}
 use Rattle.neighbours.proofs.fails_with_yz.Tie as tie
 
@@ -18,7 +18,7 @@ at-requires : tie.Need-at-requires
 at-requires c κs = search rules
 
 add-less : tie.Need-overflow-add-less
-add-less c = omega (arith, c.at.ensures.1, reach-cap c.before.before.before.requires.1.2)
+add-less c = omega (arith, c.at.ensures.1, reach_cap c.before.before.before.requires.1.2)
 
 at-requires-2 : tie.Need-at-requires-2
 at-requires-2 c κs = search rules
@@ -39,7 +39,7 @@ returns-2 c r =
     let ay = zy.before in
     let s = ay.before.before.before in
     let a = s.args in
-    half-fails a.n a.entries.now s.requires.0.0 a.k a.a a.c a.y a.z _ s.requires.0.1 s.requires.0.2 s.requires.0.3 s.requires.0.4 s.requires.1.0 s.requires.1.1
+    half_fails a.n a.entries.now s.requires.0.0 a.k a.a a.c a.y a.z _ s.requires.0.1 s.requires.0.2 s.requires.0.3 s.requires.0.4 s.requires.1.0 s.requires.1.1
     ay.before.if1.false s.requires.1.2 ay.at.ensures.0 zy.at2.ensures.0 (to_z-of_z w64 _ (sfits_of less.less.type-inv) ∙ less.less.ensures) c.supports.ensures
     (not-true _ r)
 

@@ -4,7 +4,7 @@ use native.Mathlib.Omega.{arith}
 use mathlib.Core.Path.{◌≡◌}
 use Rattle.statement.specs.Matrix.{distance}
 use Rattle.neighbours.specs.Near.{Nearest}
-use Rattle.neighbours.proofs.Looks.{nearest-one}
+use Rattle.neighbours.proofs.Looks.{nearest_one}
 use borrow.Author.Rules.{rules}
 use Rattle.neighbours.proofs.nearest.Statement.{statement}
 use Rattle.neighbours.proofs.nearest.Tie as tie
@@ -16,7 +16,7 @@ abbrev decreases-loop : tie.decreases-loop
 decreases-loop n entries k near₀ i₀ near i = k - i
 
 loop-holds : tie.Need-loop-init invariant-loop decreases-loop
-loop-holds c = (omega arith, nearest-one _ _)
+loop-holds c = (omega arith, nearest_one _ _)
 
 nearer-requires : tie.Need-nearer-requires invariant-loop decreases-loop
 nearer-requires c κs = let l = c.before in let s = l.before.before in (s.requires.0, s.requires.2, omega arith, l.loop.invariant.1)

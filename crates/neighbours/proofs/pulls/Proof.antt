@@ -5,7 +5,7 @@ use mathlib.Core.Path.{◌≡◌, refl}
 use lib.ListN.{length, length-set}
 use Rattle.statement.specs.Matrix.{distance}
 use Rattle.neighbours.specs.Reach.{Pulls}
-use Rattle.neighbours.proofs.Reaches.{pulls-turn}
+use Rattle.neighbours.proofs.Reaches.{pulls_turn}
 use borrow.Author.Rules.{rules}
 use Rattle.neighbours.proofs.pulls.Statement.{statement}
 use Rattle.neighbours.proofs.pulls.Tie as tie
@@ -39,7 +39,7 @@ loop-again c =
     let l = c.before.before in
     let i = l.loop in
     let room : i.x < length i.all = omega (arith, i.invariant.1, l.before.before.requires.0.few) in
-    (omega arith, simp length-set i.invariant.1, pulls-turn _ _ _ _ i.x c.pull.result i.all i.invariant.2 room c.pull.ensures)
+    (omega arith, simp length-set i.invariant.1, pulls_turn _ _ _ _ i.x c.pull.result i.all i.invariant.2 room c.pull.ensures)
 
 returns : tie.Need-returns invariant-loop decreases-loop
 returns c =

@@ -4,7 +4,7 @@ use native.Mathlib.Omega.{arith}
 use mathlib.Core.Path.{◌≡◌, ◌∙◌}
 use Rattle.statement.specs.Matrix.{distance}
 use Rattle.neighbours.specs.Reach.{Reach}
-use Rattle.neighbours.proofs.Reaches.{pull-cap, reach-none, reach-turn}
+use Rattle.neighbours.proofs.Reaches.{pull_cap, reach_none, reach_turn}
 use borrow.Author.Rules.{rules}
 use Rattle.neighbours.proofs.reach.Statement.{statement}
 use Rattle.neighbours.proofs.reach.Tie as tie
@@ -16,7 +16,7 @@ abbrev decreases-loop : tie.decreases-loop
 decreases-loop n entries k a c z pull low₀ x₀ low x = k - x
 
 loop-holds : tie.Need-loop-init invariant-loop decreases-loop
-loop-holds c = (omega arith, reach-none _ _ _ _ _)
+loop-holds c = (omega arith, reach_none _ _ _ _ _)
 
 at-requires : tie.Need-at-requires invariant-loop decreases-loop
 at-requires c κs = search rules
@@ -31,7 +31,7 @@ add-least : tie.Need-overflow-add-least invariant-loop decreases-loop
 add-least c =
     let l = c.before.before.before in
     let s = l.before.before in
-    omega (arith, c.before.at.ensures.1, pull-cap _ _ _ _ l.loop.x _ (s.requires.3 l.loop.x c.before.before.loop-test.true))
+    omega (arith, c.before.at.ensures.1, pull_cap _ _ _ _ l.loop.x _ (s.requires.3 l.loop.x c.before.before.loop-test.true))
 
 least-requires : tie.Need-least-requires invariant-loop decreases-loop
 least-requires c κs = search rules
@@ -49,7 +49,7 @@ loop-again c =
     let s = l.before.before in
     let a = s.args in (
       omega arith,
-      reach-turn _ _ _ _ _ l.loop.x l.loop.invariant.1 (s.requires.3 l.loop.x t.before.loop-test.true)
+      reach_turn _ _ _ _ _ l.loop.x l.loop.invariant.1 (s.requires.3 l.loop.x t.before.loop-test.true)
           (t.at.ensures.0 ∙ s.requires.0.same a.z l.loop.x s.requires.2 (omega arith)) c.least.ensures,
     )
 

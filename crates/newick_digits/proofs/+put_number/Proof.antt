@@ -6,7 +6,7 @@ use native.Mathlib.Omega.{arith}
 use lib.ListN.{set}
 use lib.Seq.{sets}
 use Rattle.statement.specs.Decimal.{decimal}
-use Rattle.newick_digits.proofs.Decimal.{len-one, len_more, sets-one, sets_more}
+use Rattle.newick_digits.proofs.Decimal.{len_one, len_more, sets_one, sets_more}
 use borrow.Fn.Kinds.{In}
 use borrow.Fn.PlainCycle.{Measures, is, falls, and}
 use Rattle.newick_digits.proofs.put_number.Reads as put-number
@@ -49,7 +49,7 @@ put-number-put-requires : (t : ℕ) → put-number-lts.Need-put-requires (
   put-number-below t,
   put-number.Post,
 ) (put-number-at t) put-number.Post
-put-number-put-requires t c κs = omega (arith, len-one c.before.before.before.args.n (omega arith))
+put-number-put-requires t c κs = omega (arith, len_one c.before.before.before.args.n (omega arith))
 
 put-number-same-length : (t : ℕ) → put-number-lts.Need-same-length (
   put_reads.Asked,
@@ -67,7 +67,7 @@ put-number-returns : (t : ℕ) → put-number-lts.Need-returns (
 ) (put-number-at t) put-number.Post
 put-number-returns t c =
     let a = c.before.before.before.before.before.before.args in let h : a.n < 10 = omega arith in
-    (c.before.before.put.ensures.0 ∙ sets-one a.n a.out.now a.at h, omega (arith, len-one a.n h))
+    (c.before.before.put.ensures.0 ∙ sets_one a.n a.out.now a.at h, omega (arith, len_one a.n h))
 
 put-number-put-number-requires : (t : ℕ) → put-number-lts.Need-put-number-requires (
   put_reads.Asked,

@@ -1,14 +1,14 @@
 -- Found, pushed, or no room.
 use native.Mathlib.Omega.{arith}
-use Rattle.newick_edges.specs.Table.{Table, tableIn}
-use Rattle.newick_edges.proofs.Laws.{found-is, pushed-is, full_is}
+use Rattle.newick_edges.specs.Table.{Table, table_in}
+use Rattle.newick_edges.proofs.Laws.{found_is, pushed_is, full_is}
 use borrow.Author.Rules.{rules}
 use Rattle.newick_edges.proofs.add.Statement.{statement}
 use Rattle.newick_edges.proofs.add.Tie as tie
 
 -- the table as it was lent
 abbrev table : tie.Start → Table
-table s = let a = s.args in tableIn a.t a.clusters.now a.weights.now a.places.now a.many.now
+table s = let a = s.args in table_in a.t a.clusters.now a.weights.now a.places.now a.many.now
 
 find-requires : tie.Need-find-requires
 find-requires c κs = search rules
@@ -24,7 +24,7 @@ returns c =
     let s = c.before.before.before in
     let a = s.args in
     let f = c.before.find in
-    (found-is (table s) a.place a.c a.w f.result f.ensures c.if1.true, s.requires)
+    (found_is (table s) a.place a.c a.w f.result f.ensures c.if1.true, s.requires)
 
 mul-clusters : tie.Need-overflow-mul-clusters
 mul-clusters c = search rules
@@ -52,7 +52,7 @@ returns-2 c =
     let s = c.before.before.before.before in
     let a = s.args in
     let f = c.before.before.find in
-    (pushed-is (table s) a.place a.c a.w f.result f.ensures c.before.if1.false c.if2.true, omega arith)
+    (pushed_is (table s) a.place a.c a.w f.result f.ensures c.before.if1.false c.if2.true, omega arith)
 
 returns-3 : tie.Need-returns-3
 returns-3 c =

@@ -1,11 +1,11 @@
 -- Below n, and its bit is clear.
-use Rattle.newick_edges.proofs.Marking.{not-below, is_below}
+use Rattle.newick_edges.proofs.Marking.{not_below, is_below}
 use borrow.Author.Rules.{rules}
 use Rattle.newick_edges.proofs.fresh.Statement.{statement}
 use Rattle.newick_edges.proofs.fresh.Tie as tie
 
 returns : tie.Need-returns
-returns c = not-below _ _ _ c.if1.true
+returns c = not_below _ _ _ c.if1.true
 
 shr-result : tie.Need-overflow-shr-result
 shr-result c = search rules

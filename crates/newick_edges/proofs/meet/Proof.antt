@@ -4,7 +4,7 @@ use mir.Syntax.{w64}
 use Prim.Native.Nat.{ℕ, ◌+◌, ◌^◌, ◌<◌}
 use mathlib.Core.Path.{sym, ◌∙◌, ap}
 use native.Mathlib.Omega.{arith}
-use Rattle.newick_edges.proofs.Marking.{fresh-parts, room, meets, strays}
+use Rattle.newick_edges.proofs.Marking.{fresh_parts, room, meets, strays}
 use borrow.Author.Rules.{rules}
 use Rattle.newick_edges.proofs.meet.Statement.{statement}
 use Rattle.newick_edges.proofs.meet.Tie as tie
@@ -13,12 +13,12 @@ fresh-requires : tie.Need-fresh-requires
 fresh-requires c κs = search rules
 
 single-requires : tie.Need-single-requires
-single-requires c κs = let a = c.before.before.args in omega (arith, (fresh-parts a.n _ a.x (sym c.before.fresh.ensures ∙ c.if1.true)).0)
+single-requires c κs = let a = c.before.before.args in omega (arith, (fresh_parts a.n _ a.x (sym c.before.fresh.ensures ∙ c.if1.true)).0)
 
 add-t7 : tie.Need-overflow-add-t7
 add-t7 c =
     let a = c.before.before.before.before.args in
-    let f = fresh-parts a.n a.m.seen a.x (sym c.before.before.before.fresh.ensures ∙ c.before.before.if1.true) in
+    let f = fresh_parts a.n a.m.seen a.x (sym c.before.before.before.fresh.ensures ∙ c.before.before.if1.true) in
     let g : Fits w64 a.m.seen = c.struct_known.given.0 in
     let h : a.m.seen < 2 ^ 64 = omega (arith, g) in
     omega (arith, room 64 a.x a.m.seen (omega arith) h f.1, c.before.single.ensures)

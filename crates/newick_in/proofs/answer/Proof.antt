@@ -4,9 +4,9 @@ use mathlib.Core.Path.{◌≡◌, refl, sym, ◌∙◌, ap, subst}
 use mathlib.Core.Logic.{⊎_elim}
 use Rattle.statement.specs.declared.Reading.{Reading}
 use Rattle.statement.specs.declared.Outcome.TheVariants.{Done}
-use Rattle.newick_meaning.specs.Parse.{readNewick}
-use Rattle.newick_in.specs.Records.{Covers, recordOfList}
-use Rattle.newick_in.proofs.Records.{text-covers, text-record, text-refused, text-done}
+use Rattle.newick_meaning.specs.Parse.{read_newick}
+use Rattle.newick_in.specs.Records.{Covers, record_of_list}
+use Rattle.newick_in.proofs.Records.{text_covers, text_record, text_refused, text_done}
 use borrow.Author.Rules.{rules}
 use Rattle.newick_in.proofs.answer.Statement.{statement}
 use Rattle.newick_in.proofs.answer.Tie as tie
@@ -24,19 +24,19 @@ returns : tie.Need-returns
 returns c =
     let a = c.before.before.before.before.before.before.before.args in
     let read = c.before.before.before.before in
-    (text-refused a.n a.text.now _ _ (sym (ap (λ (r : Reading). r.outcome) read.read-newick.ensures) ∙ c.before.before.said.given.1), (omega arith, refl))
+    (text_refused a.n a.text.now _ _ (sym (ap (λ (r : Reading). r.outcome) read.read-newick.ensures) ∙ c.before.before.said.given.1), (omega arith, refl))
 
 -- not refused
-done : (c : tie.After-put-list-arg) → let a = c.before.before.before.before.before.args in (readNewick a.n a.text.now).outcome ≡ Done
+done : (c : tie.After-put-list-arg) → let a = c.before.before.before.before.before.args in (read_newick a.n a.text.now).outcome ≡ Done
 done c =
-    text-done _ _ (λ number place e.
+    text_done _ _ (λ number place e.
     let refused = ap (λ (r : Reading). r.outcome) c.before.before.read-newick.ensures ∙ e in
     ⊎_elim (λ q. absurd (omega arith)) (λ q. absurd (omega arith)) (rw refused at c.before.match.keys2))
 
 put-list-requires : tie.Need-put-list-requires
 put-list-requires c κs =
     let s = c.before.before.before.before.before in
-    (subst (Covers s.args.n) (sym (ap (λ (r : Reading). r.list) c.before.before.read-newick.ensures)) (text-covers _ _ (done c)), s.requires)
+    (subst (Covers s.args.n) (sym (ap (λ (r : Reading). r.list) c.before.before.read-newick.ensures)) (text_covers _ _ (done c)), s.requires)
 
 same_length : tie.Need-same-length
 same_length c = search rules
@@ -47,7 +47,7 @@ returns-2 c =
     let arg = call.before in
     let a = arg.before.before.before.before.before.args in
     let put = call.put-list.ensures in
-    (put.0 ∙ ap (recordOfList a.n) (ap (λ (r : Reading). r.list) arg.before.before.read-newick.ensures) ∙ text-record _ _ (done arg), put.1)
+    (put.0 ∙ ap (record_of_list a.n) (ap (λ (r : Reading). r.list) arg.before.before.read-newick.ensures) ∙ text_record _ _ (done arg), put.1)
 
 pub answer-spec : {M : Type 1} → statement M
 answer-spec =

@@ -3,8 +3,8 @@ use native.Mathlib.Omega.{arith}
 use mathlib.Core.Path.{◌≡◌, sym, ◌∙◌, ap}
 use lib.ListN.{length}
 use lib.Seq.{length-take-le}
-use Rattle.statement.specs.Record.{recordLength}
-use Rattle.newick_in.proofs.Records.{tree-taken, at-start}
+use Rattle.statement.specs.Record.{record_length}
+use Rattle.newick_in.proofs.Records.{tree_taken, at_start}
 use borrow.Author.Rules.{rules}
 use Rattle.newick_in.proofs.put_list.Statement.{statement}
 use Rattle.newick_in.proofs.put_list.Tie as tie
@@ -44,8 +44,8 @@ put-record-requires c κs =
     let hw : length a.list.weights ≡ 125 = search rules in
     let len = length-take-le _ c.before.before.buffer.result (array-borrow-prefix-body c.before.before) in (
       s.requires.0.few,
-      tree-taken a.n a.list _ hc hw s.requires.0 len,
-      length-take-le _ a.out.now (slice-relend-prefix-put-record c.before) ∙ c.before.before.before.record-length.ensures ∙ ap recordLength (sym len),
+      tree_taken a.n a.list _ hc hw s.requires.0 len,
+      length-take-le _ a.out.now (slice-relend-prefix-put-record c.before) ∙ c.before.before.before.record-length.ensures ∙ ap record_length (sym len),
     )
 
 same_length : tie.Need-same-length
@@ -56,7 +56,7 @@ returns c =
     let call = c.before.before.before in
     let same : length call.put_record.new.1.1.1.0 ≡ call.before.before.before.before.record-length.result =
     omega (arith, slice-aggregate-put-record-2 call.before) in
-    at-start _ _ _ _ call.put_record.ensures same
+    at_start _ _ _ _ call.put_record.ensures same
 
 pub put-list-spec : {M : Type 1} → statement M
 put-list-spec =

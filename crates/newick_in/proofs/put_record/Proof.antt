@@ -1,7 +1,7 @@
 -- `newick_in::put_record` meets its contract. Assumes nothing.
 use mathlib.Core.Path.{◌∙◌, ap}
-use Rattle.statement.specs.Record.{recordOf}
-use Rattle.newick_in.proofs.Records.{body-written}
+use Rattle.statement.specs.Record.{record_of}
+use Rattle.newick_in.proofs.Records.{body_written_law}
 use borrow.Author.Rules.{rules}
 use Rattle.newick_in.proofs.put_record.Statement.{statement}
 use Rattle.newick_in.proofs.put_record.Tie as tie
@@ -28,7 +28,7 @@ returns c =
     let s = c.before.before.before.before.before.before.before.before.before.before.before in
     let a = s.args in
     laid.lay-out.ensures
-    ∙ ap (recordOf 3 a.n) (wrote.write-tree.ensures.1 ∙ body-written a.n a.list a.body.now s.requires.1)
+    ∙ ap (record_of 3 a.n) (wrote.write-tree.ensures.1 ∙ body_written_law a.n a.list a.body.now s.requires.1)
 
 pub put-record-spec : {M : Type 1} → statement M
 put-record-spec =

@@ -3,10 +3,10 @@ use native.Mathlib.Omega.{arith}
 use mathlib.Core.Path.{◌≡◌, sym, ◌∙◌, ap, ap₂}
 use borrow.Author.Rules.{rules}
 use Rattle.statement.specs.Refusals.{number_of}
-use Rattle.statement.specs.Calls.{readTree}
+use Rattle.statement.specs.Calls.{read_tree}
 use Rattle.record_find.proofs.Found.{Found}
-use Rattle.newick_out.specs.Lists.{withoutTrials}
-use Rattle.newick_out.proofs.Lists.{list-refused, list-found, list-tree, list-run}
+use Rattle.newick_out.specs.Lists.{without_trials}
+use Rattle.newick_out.proofs.Lists.{list_refused, list_found, list_tree, list_run}
 use Rattle.newick_out.proofs.list_in.Statement.{statement}
 use Rattle.newick_out.proofs.list_in.Tie as tie
 
@@ -23,14 +23,14 @@ returns : tie.Need-returns
 returns c =
     let found = c.before.before.before in
     let b = found.before.before.args.bytes.now in
-    list-refused b _ found.find-record.ensures _ c.empty.ensures (λ e. c.before.if1.true (c.before.before.number_of_lem.ensures ∙ e))
+    list_refused b _ found.find-record.ensures _ c.empty.ensures (λ e. c.before.if1.true (c.before.before.number_of_lem.ensures ∙ e))
 
 -- the number is 0
 none : (c : tie.Else1) → number_of c.before.before.find-record.result ≡ 0
 none c = sym c.before.number_of_lem.ensures ∙ c.if1.false
 
 found : (c : tie.Else1) → Found c.before.before.before.before.args.bytes.now
-found c = list-found _ _ c.before.before.find-record.ensures (none c)
+found c = list_found _ _ c.before.before.find-record.ensures (none c)
 
 shared-slice-read-if2 : tie.Need-shared-slice-read-if2
 shared-slice-read-if2 c = omega (arith, (found c.before).header)
@@ -51,8 +51,8 @@ returns-2 : tie.Need-returns-2
 returns-2 c =
     let e = c.before.before.before.before.before.before in
     c.read-tree.ensures
-    ∙ ap₂ readTree c.before.before.vertex.ensures c.before.body_of.ensures.0
-    ∙ list-tree _ _ e.before.before.find-record.ensures (none e) c.before.before.before.before.if2.true
+    ∙ ap₂ read_tree c.before.before.vertex.ensures c.before.body_of.ensures.0
+    ∙ list_tree _ _ e.before.before.find-record.ensures (none e) c.before.before.before.before.if2.true
 
 run-record-requires : tie.Need-run-record-requires
 run-record-requires c κs = search rules
@@ -64,8 +64,8 @@ returns-3 : tie.Need-returns-3
 returns-3 c =
     let e = c.before.before.before.before in
     c.without-trials.ensures
-    ∙ ap withoutTrials c.before.run-record.ensures
-    ∙ list-run _ _ e.before.before.find-record.ensures (none e) c.before.before.if2.false
+    ∙ ap without_trials c.before.run-record.ensures
+    ∙ list_run _ _ e.before.before.find-record.ensures (none e) c.before.before.if2.false
 
 pub list-in-spec : {M : Type 1} → statement M
 list-in-spec =

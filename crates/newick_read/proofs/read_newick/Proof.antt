@@ -7,8 +7,8 @@ use Rattle.newick_text.specs.declared.Took.TheVariants.{Past, Bad}
 use Rattle.newick_text.specs.Automaton.{whole, place_of, bad, good}
 use mathlib.Core.Path.{◌≡◌, ◌∙◌}
 use native.Mathlib.Omega.{arith}
-use Rattle.newick_reading.proofs.Reply.{taxa-reply, taxa-few, taxa-many, text-reply}
-use Rattle.newick_meaning.proofs.Parses.{parsed-bad}
+use Rattle.newick_reading.proofs.Reply.{taxa_reply, taxa_few, taxa_many, text_reply}
+use Rattle.newick_meaning.proofs.Parses.{parsed_bad}
 use borrow.Author.Rules.{rules}
 use Rattle.newick_read.proofs.read_newick.Statement.{statement}
 use Rattle.newick_read.proofs.read_newick.Tie as tie
@@ -26,13 +26,13 @@ refused-requires : tie.Need-refused-requires
 refused-requires c κs = search rules
 
 returns : tie.Need-returns
-returns c = let a = c.before.before.before.args in c.refused.ensures ∙ taxa-reply a.n a.text.now (taxa-few a.n c.before.if1.true)
+returns c = let a = c.before.before.before.args in c.refused.ensures ∙ taxa_reply a.n a.text.now (taxa_few a.n c.before.if1.true)
 
 refused-requires-2 : tie.Need-refused-requires-2
 refused-requires-2 c κs = search rules
 
 returns-2 : tie.Need-returns-2
-returns-2 c = let a = c.before.before.before.before.args in c.refused2.ensures ∙ taxa-reply a.n a.text.now (taxa-many a.n c.before.if2.true)
+returns-2 c = let a = c.before.before.before.before.args in c.refused2.ensures ∙ taxa_reply a.n a.text.now (taxa_many a.n c.before.if2.true)
 
 accepts-requires : tie.Need-accepts-requires
 accepts-requires c κs = search rules
@@ -50,8 +50,8 @@ returns-3 c =
     let g = c.before.before.k.given in
     let q = place-bad k.result g.0.0 g.1 in
     c.refused3.ensures
-    ∙ text-reply a.n c.before.before.before.before.before.before.if1.false c.before.before.before.before.before.if2.false a.text.now g.0.0
-    (parsed-bad a.text.now g.0.0 (omega (arith, q, k.ensures.1)) (k.ensures.0 ∙ whole-bad a.text.now k.result g.0.0 g.1))
+    ∙ text_reply a.n c.before.before.before.before.before.before.if1.false c.before.before.before.before.before.if2.false a.text.now g.0.0
+    (parsed_bad a.text.now g.0.0 (omega (arith, q, k.ensures.1)) (k.ensures.0 ∙ whole-bad a.text.now k.result g.0.0 g.1))
 
 enum_told : tie.Need-enum-told
 enum_told c = search rules

@@ -1,8 +1,8 @@
 -- Each way out is a law of what the walk noted.
 use Prim.Native.Nat.{◌-◌, ◌^◌}
 use mathlib.Core.Path.{◌≡◌, sym, ◌∙◌}
-use Rattle.newick_walk.specs.Machine.{Walk, walkIn, begun}
-use Rattle.newick_walk.proofs.Steps.{begun-is}
+use Rattle.newick_walk.specs.Machine.{Walk, walk_in, begun}
+use Rattle.newick_walk.proofs.Steps.{begun_is}
 use Rattle.newick_walk.proofs.Turns.{walks_from}
 use Rattle.newick_reading.proofs.Ways.{Over, over, way20, way20', way14, way12, way13, way}
 use borrow.Author.Rules.{rules}
@@ -14,13 +14,13 @@ abbrev start : tie.After-walk-over → tie.Start
 start c = c.before.before.before.before.before.before.before
 
 abbrev found : tie.After-walk-over → Walk
-found c = let k = c.walk-over.new.1.1 in walkIn c.walk-over.result k.0 k.1.0 k.1.1.0 k.1.1.1.0 k.1.1.1.1.0
+found c = let k = c.walk-over.new.1.1 in walk_in c.walk-over.result k.0 k.1.0 k.1.1.0 k.1.1.1.0 k.1.1.1.1.0
 
 passed : (c : tie.After-walk-over) → let a = (start c).args in Over a.n a.text.now (found c)
 passed c =
     let s = start c in
     over s.args.n s.args.text.now (found c) s.pre.0 s.pre.1 s.pre.2
-    (walks_from s.args.n s.args.text.now _ begun (found c) begun-is c.walk-over.ensures.0)
+    (walks_from s.args.n s.args.text.now _ begun (found c) begun_is c.walk-over.ensures.0)
 
 abbrev walk1 : tie.Else1 → tie.After-walk-over
 walk1 c = c.before.before.before

@@ -5,7 +5,7 @@ use mathlib.Core.Path.{◌≡◌, refl, ap, ◌∙◌}
 use native.Mathlib.Omega.{arith}
 use lib.ListN.{length, drop, get_or}
 use Rattle.newick_text.specs.Automaton.{taxon, weight, want, over, close as shut, run, ran, place_of}
-use Rattle.newick_text.proofs.Laws.{goes, fails, ran-bad, ran-past, place-past, want-first, want-full, want-deeper, suc-pred, colon-over, colon-close, sep-close, sep-comma, sep-none, inside'}
+use Rattle.newick_text.proofs.Laws.{goes, fails, ran_bad, ran_past, place_past, want_first, want_full, want_deeper, suc_pred, colon_over, colon_close, sep_close, sep_comma, sep_none, inside'}
 use borrow.Fn.Kinds.{In}
 use borrow.Fn.PlainCycle.{Measures, is, falls, and}
 use Rattle.newick_text.proofs.child.Reads as child
@@ -86,7 +86,7 @@ child-returns : (t : ℕ) → child-lts.Need-returns (
 ) (child-at t) child.Post
 child-returns t c =
     let a = c.before.before.before.before.before.args in let p = c.before.before.before.peek in let n = c.before.number in let k = c.tail in (
-      (λ d. n.ensures.0 (want taxon (suc d) a.left) taxon (suc d) a.left (want-first (suc d) a.left (get_or a.t.now a.at 256) (λ e. c.before.before.if1.true (p.ensures ∙ e))) ∙ k.ensures.0 (over taxon (suc d) a.left) (suc d) a.left (colon-over (suc d) a.left)),
+      (λ d. n.ensures.0 (want taxon (suc d) a.left) taxon (suc d) a.left (want_first (suc d) a.left (get_or a.t.now a.at 256) (λ e. c.before.before.if1.true (p.ensures ∙ e))) ∙ k.ensures.0 (over taxon (suc d) a.left) (suc d) a.left (colon_over (suc d) a.left)),
       record { on = omega (arith, n.ensures.1.on, k.ensures.1.0); within = λ h. k.ensures.1.1 (n.ensures.1.within h) },
     )
 
@@ -102,7 +102,7 @@ child-returns-2 : (t : ℕ) → child-lts.Need-returns-2 (
 ) (child-at t) child.Post
 child-returns-2 t c =
     let a = c.before.before.before.before.args in let p = c.before.before.peek in
-    ((λ d. fails a.t.now a.at (want taxon (suc d) a.left) p.result p.ensures (want-full (suc d) a.left p.result c.before.if1.false c.if2.true)), record { on = omega arith; within = λ h. h })
+    ((λ d. fails a.t.now a.at (want taxon (suc d) a.left) p.result p.ensures (want_full (suc d) a.left p.result c.before.if1.false c.if2.true)), record { on = omega arith; within = λ h. h })
 
 child-add-inner : (t : ℕ) → child-lts.Need-overflow-add-inner (
   peek-reads.Asked,
@@ -165,10 +165,10 @@ child-returns-3 : (t : ℕ) → child-lts.Need-returns-3 (
 child-returns-3 t c =
     let a = c.before.before.before.before.before.before.args in let p = c.before.before.before.before.peek in let n = c.before.inner in let k = c.tail2 in
     let z = c.before.before.if2.false in
-    let e : suc (a.left - 1) ≡ a.left = suc-pred a.left z in
+    let e : suc (a.left - 1) ≡ a.left = suc_pred a.left z in
     let h : a.at < length a.t.now = inside' a.t.now a.at p.result p.ensures (omega arith) in
     let w : place_of n.result ≤ length a.t.now = n.ensures.1.within (omega arith) in (
-      (λ d. goes a.t.now a.at (want taxon (suc d) a.left) p.result p.ensures (want-deeper (suc d) a.left p.result c.before.before.before.if1.false z) ∙ n.ensures.0 (suc d) ∙ ap (λ (m : ℕ). ran a.t.now (shut (suc d) m) n.result) e ∙ k.ensures.0 (shut (suc d) a.left) (suc d) a.left (colon-close d a.left)),
+      (λ d. goes a.t.now a.at (want taxon (suc d) a.left) p.result p.ensures (want_deeper (suc d) a.left p.result c.before.before.before.if1.false z) ∙ n.ensures.0 (suc d) ∙ ap (λ (m : ℕ). ran a.t.now (shut (suc d) m) n.result) e ∙ k.ensures.0 (shut (suc d) a.left) (suc d) a.left (colon_close d a.left)),
       record { on = omega (arith, n.ensures.1.on, k.ensures.1.0); within = λ x. k.ensures.1.1 w },
     )
 
@@ -218,7 +218,7 @@ inner-returns : (t : ℕ) → inner-lts.Need-returns (
 ) (inner-at t) inner.Post inner-Inv-loop inner-μ-loop
 inner-returns t c =
     let a = c.before.before.before.before.before.args in let l = c.before.before.before.loop in let k = c.before.before.child in (
-      (λ d. l.invariant.0 d ∙ k.ensures.0 d ∙ ran-bad a.t.now (over weight (suc d) a.left) (shut d (suc a.left)) k.result _ c.enum_told.given.1),
+      (λ d. l.invariant.0 d ∙ k.ensures.0 d ∙ ran_bad a.t.now (over weight (suc d) a.left) (shut d (suc a.left)) k.result _ c.enum_told.given.1),
       record { on = omega (arith, k.ensures.1.on); within = λ x. k.ensures.1.within (l.invariant.1.1 x) },
     )
 
@@ -239,7 +239,7 @@ inner-add-t9 : (t : ℕ) → inner-lts.Need-overflow-add-t9 (
 inner-add-t9 t c =
     let a = c.before.before.before.before.before.before.before.before.args in let l = c.before.before.before.before.before.before.loop in let k = c.before.before.before.before.before.child in let g = c.before.before.before.k.given in let q = c.before.peek in
     let p : ℕ = g.0.0 in
-    let e : place_of k.result ≡ p = place-past k.result p g.1 in
+    let e : place_of k.result ≡ p = place_past k.result p g.1 in
     let h : p < length a.t.now = inside' a.t.now p q.result q.ensures (omega arith) in
     let o : l.i ≤ place_of k.result = k.ensures.1.on in
     omega arith
@@ -253,11 +253,11 @@ inner-returns-2 : (t : ℕ) → inner-lts.Need-returns-2 (
 inner-returns-2 t c =
     let a = c.before.before.before.before.before.before.before.before.args in let l = c.before.before.before.before.before.before.loop in let k = c.before.before.before.before.before.child in let g = c.before.before.before.k.given in let q = c.before.peek in
     let p : ℕ = g.0.0 in
-    let e : place_of k.result ≡ p = place-past k.result p g.1 in
-    let came : (d : ℕ) → run (drop a.at a.t.now) (want taxon (suc d) a.left) ≡ run (drop p a.t.now) (over weight (suc d) a.left) = λ d. l.invariant.0 d ∙ k.ensures.0 d ∙ ran-past a.t.now (over weight (suc d) a.left) k.result p g.1 in
+    let e : place_of k.result ≡ p = place_past k.result p g.1 in
+    let came : (d : ℕ) → run (drop a.at a.t.now) (want taxon (suc d) a.left) ≡ run (drop p a.t.now) (over weight (suc d) a.left) = λ d. l.invariant.0 d ∙ k.ensures.0 d ∙ ran_past a.t.now (over weight (suc d) a.left) k.result p g.1 in
     let h : p < length a.t.now = inside' a.t.now p q.result q.ensures (omega arith) in
     let o : l.i ≤ place_of k.result = k.ensures.1.on in (
-      (λ d. came d ∙ goes a.t.now p (over weight (suc d) a.left) q.result q.ensures (sep-close d a.left q.result c.if1.true)),
+      (λ d. came d ∙ goes a.t.now p (over weight (suc d) a.left) q.result q.ensures (sep_close d a.left q.result c.if1.true)),
       record { on = omega arith; within = λ x. omega arith },
     )
 
@@ -270,10 +270,10 @@ inner-returns-3 : (t : ℕ) → inner-lts.Need-returns-3 (
 inner-returns-3 t c =
     let a = c.before.before.before.before.before.before.before.before.before.args in let l = c.before.before.before.before.before.before.before.loop in let k = c.before.before.before.before.before.before.child in let g = c.before.before.before.before.k.given in let q = c.before.before.peek in
     let p : ℕ = g.0.0 in
-    let e : place_of k.result ≡ p = place-past k.result p g.1 in
-    let came : (d : ℕ) → run (drop a.at a.t.now) (want taxon (suc d) a.left) ≡ run (drop p a.t.now) (over weight (suc d) a.left) = λ d. l.invariant.0 d ∙ k.ensures.0 d ∙ ran-past a.t.now (over weight (suc d) a.left) k.result p g.1 in
+    let e : place_of k.result ≡ p = place_past k.result p g.1 in
+    let came : (d : ℕ) → run (drop a.at a.t.now) (want taxon (suc d) a.left) ≡ run (drop p a.t.now) (over weight (suc d) a.left) = λ d. l.invariant.0 d ∙ k.ensures.0 d ∙ ran_past a.t.now (over weight (suc d) a.left) k.result p g.1 in
     let o : l.i ≤ place_of k.result = k.ensures.1.on in (
-      (λ d. came d ∙ fails a.t.now p (over weight (suc d) a.left) q.result q.ensures (sep-none (suc d) a.left q.result c.before.if1.false c.if2.true)),
+      (λ d. came d ∙ fails a.t.now p (over weight (suc d) a.left) q.result q.ensures (sep_none (suc d) a.left q.result c.before.if1.false c.if2.true)),
       record { on = omega arith; within = λ x. let w : place_of k.result ≤ length a.t.now = k.ensures.1.within (l.invariant.1.1 x) in omega arith },
     )
 
@@ -286,7 +286,7 @@ inner-add-i : (t : ℕ) → inner-lts.Need-overflow-add-i (
 inner-add-i t c =
     let a = c.before.before.before.before.before.before.before.before.before.args in let l = c.before.before.before.before.before.before.before.loop in let k = c.before.before.before.before.before.before.child in let g = c.before.before.before.before.k.given in let q = c.before.before.peek in
     let p : ℕ = g.0.0 in
-    let e : place_of k.result ≡ p = place-past k.result p g.1 in
+    let e : place_of k.result ≡ p = place_past k.result p g.1 in
     let h : p < length a.t.now = inside' a.t.now p q.result q.ensures (omega arith) in
     let o : l.i ≤ place_of k.result = k.ensures.1.on in
     omega arith
@@ -300,7 +300,7 @@ inner-loop-less : (t : ℕ) → inner-lts.Need-loop-smaller (
 inner-loop-less t c =
     let a = c.before.before.before.before.before.before.before.before.before.args in let l = c.before.before.before.before.before.before.before.loop in let k = c.before.before.before.before.before.before.child in let g = c.before.before.before.before.k.given in let q = c.before.before.peek in
     let p : ℕ = g.0.0 in
-    let e : place_of k.result ≡ p = place-past k.result p g.1 in
+    let e : place_of k.result ≡ p = place_past k.result p g.1 in
     let h : p < length a.t.now = inside' a.t.now p q.result q.ensures (omega arith) in
     let o : l.i ≤ place_of k.result = k.ensures.1.on in
     omega arith
@@ -314,11 +314,11 @@ inner-loop-again : (t : ℕ) → inner-lts.Need-loop-preserved (
 inner-loop-again t c =
     let a = c.before.before.before.before.before.before.before.before.before.args in let l = c.before.before.before.before.before.before.before.loop in let k = c.before.before.before.before.before.before.child in let g = c.before.before.before.before.k.given in let q = c.before.before.peek in
     let p : ℕ = g.0.0 in
-    let e : place_of k.result ≡ p = place-past k.result p g.1 in
-    let came : (d : ℕ) → run (drop a.at a.t.now) (want taxon (suc d) a.left) ≡ run (drop p a.t.now) (over weight (suc d) a.left) = λ d. l.invariant.0 d ∙ k.ensures.0 d ∙ ran-past a.t.now (over weight (suc d) a.left) k.result p g.1 in
+    let e : place_of k.result ≡ p = place_past k.result p g.1 in
+    let came : (d : ℕ) → run (drop a.at a.t.now) (want taxon (suc d) a.left) ≡ run (drop p a.t.now) (over weight (suc d) a.left) = λ d. l.invariant.0 d ∙ k.ensures.0 d ∙ ran_past a.t.now (over weight (suc d) a.left) k.result p g.1 in
     let h : p < length a.t.now = inside' a.t.now p q.result q.ensures (omega arith) in
     let o : l.i ≤ place_of k.result = k.ensures.1.on in (
-      (λ d. came d ∙ goes a.t.now p (over weight (suc d) a.left) q.result q.ensures (sep-comma (suc d) a.left q.result c.if2.false)),
+      (λ d. came d ∙ goes a.t.now p (over weight (suc d) a.left) q.result q.ensures (sep_comma (suc d) a.left q.result c.if2.false)),
       (omega arith, λ x. omega arith),
     )
 

@@ -5,7 +5,7 @@ use Prim.Native.Nat.{ℕ, ◌≤◌, ◌<◌, ◌-◌}
 use native.Mathlib.Omega.{arith}
 use lib.ListN.{length, drop}
 use Rattle.newick_text.specs.Automaton.{Use, run, some, over, inside}
-use Rattle.newick_text.proofs.Laws.{goes, joins, digit-yes, digit_low, digit-high, some-over, some-some}
+use Rattle.newick_text.proofs.Laws.{goes, joins, digit_yes, digit_low, digit_high, some_over, some_some}
 use Rattle.newick_text.proofs.digits.Statement.{statement}
 use Rattle.newick_text.proofs.digits.Tie as tie
 
@@ -24,12 +24,12 @@ peek-requires c κs = search rules
 returns : tie.Need-returns invariant-loop decreases-loop
 returns c =
     let l = c.before.before.loop in let a = c.before.before.before.before.args in let p = c.before.peek in
-    ((λ u d n. l.invariant.0 u d n ∙ joins a.t.now l.i (some u d n) p.result p.ensures (over u d n) (some-over u d n p.result (digit_low p.result c.if1.true))), l.invariant.1)
+    ((λ u d n. l.invariant.0 u d n ∙ joins a.t.now l.i (some u d n) p.result p.ensures (over u d n) (some_over u d n p.result (digit_low p.result c.if1.true))), l.invariant.1)
 
 returns-2 : tie.Need-returns-2 invariant-loop decreases-loop
 returns-2 c =
     let l = c.before.before.before.loop in let a = c.before.before.before.before.before.args in let p = c.before.before.peek in
-    ((λ u d n. l.invariant.0 u d n ∙ joins a.t.now l.i (some u d n) p.result p.ensures (over u d n) (some-over u d n p.result (digit-high p.result c.if2.true))), l.invariant.1)
+    ((λ u d n. l.invariant.0 u d n ∙ joins a.t.now l.i (some u d n) p.result p.ensures (over u d n) (some_over u d n p.result (digit_high p.result c.if2.true))), l.invariant.1)
 
 -- in the loop, the place is in the text
 in-text : (c : tie.Else2 invariant-loop decreases-loop) → c.before.before.before.loop.i < length c.before.before.before.before.before.args.t.now
@@ -45,7 +45,7 @@ loop-again : tie.Need-loop-preserved invariant-loop decreases-loop
 loop-again c =
     let l = c.before.before.before.loop in let a = c.before.before.before.before.before.args in let p = c.before.before.peek in
     let g : 48 ≤ p.result = omega arith in let h : p.result < 58 = omega arith in
-    ((λ u d n. l.invariant.0 u d n ∙ goes a.t.now l.i (some u d n) p.result p.ensures (some-some u d n p.result (digit-yes p.result g h))), (omega arith, λ k. omega (arith, in-text c)))
+    ((λ u d n. l.invariant.0 u d n ∙ goes a.t.now l.i (some u d n) p.result p.ensures (some_some u d n p.result (digit_yes p.result g h))), (omega arith, λ k. omega (arith, in-text c)))
 
 pub digits-spec : {M : Type 1} → statement M
 digits-spec =

@@ -8,12 +8,12 @@ use lib.ListN.{length, get_or, length-append}
 use lib.Seq.{sets}
 use borrow.Author.Rules.{rules}
 use Rattle.statement.specs.Decimal.{decimal}
-use Rattle.statement.specs.NewickText.{led, childText, vertexText}
-use Rattle.newick_list.proofs.Those.{those-end}
-use Rattle.newick_vertex.specs.Arrays.{shapeIn}
-use Rattle.newick_vertex.proofs.Bare.{here-some}
-use Rattle.newick_vertex.proofs.Stores.{Left, left-same, left-length, left-all, left-room, left-turn, left-none, item-stored}
-use Rattle.newick_vertex.proofs.Whole.{kids, bare-text, bracket-text, own-length, rest-room, closed}
+use Rattle.statement.specs.NewickText.{led, child_text, vertex_text}
+use Rattle.newick_list.proofs.Those.{those_end}
+use Rattle.newick_vertex.specs.Arrays.{shape_in}
+use Rattle.newick_vertex.proofs.Bare.{here_some}
+use Rattle.newick_vertex.proofs.Stores.{Left, left_same, left_length, left_all, left_room, left_turn, left_none, item_stored}
+use Rattle.newick_vertex.proofs.Whole.{kids, bare_text, bracket_text, own_length, rest_room, closed}
 use borrow.Fn.Kinds.{In}
 use borrow.Fn.PlainCycle.{Measures, is, falls, and}
 use Rattle.newick_vertex.proofs.vertex.Reads as vertex
@@ -88,7 +88,7 @@ vertex-put-number-requires t c κs =
     let a = c.before.before.before.before.before.before.before.args in
     let pre = c.before.before.before.before.before.before.before.requires.1 in
     let i = c.before.before.lone in
-    omega (arith, pre.1, ap length (bare-text a.n a.m a.links.now a.homes.now a.weights.now a.v i.result i.ensures c.before.if1.true))
+    omega (arith, pre.1, ap length (bare_text a.n a.m a.links.now a.homes.now a.weights.now a.v i.result i.ensures c.before.if1.true))
 
 vertex-same-length : (t : ℕ) → vertex-lts.Need-same-length (
   lone-reads.Asked,
@@ -133,7 +133,7 @@ vertex-returns t c =
     let pre = c.before.before.before.before.before.before.before.before.before.before.requires.1 in
     let i = c.before.before.before.before.before.lone in
     let d = c.before.before.put-number in
-    let e = bare-text a.n a.m a.links.now a.homes.now a.weights.now a.v i.result i.ensures c.before.before.before.before.if1.true in
+    let e = bare_text a.n a.m a.links.now a.homes.now a.weights.now a.v i.result i.ensures c.before.before.before.before.if1.true in
     (d.ensures.0 ∙ ap (sets a.out.now a.at) (sym e), d.ensures.1 ∙ ap (λ (x : List ℕ). a.at + length x) (sym e))
 
 vertex-taxa-requires : (t : ℕ) → vertex-lts.Need-taxa-requires (
@@ -159,7 +159,7 @@ vertex-taxa-requires t c κs =
     let pre = c.before.before.before.before.before.before.before.requires.1 in
     let i = c.before.before.lone in (
       (pre.0.3, pre.0.4),
-      omega (arith, pre.1, own-length a.n a.m a.links.now a.homes.now a.weights.now a.v (bracket-text a.n a.m a.links.now a.homes.now a.weights.now a.v i.result i.ensures (omega (arith, c.before.if1.false)))),
+      omega (arith, pre.1, own_length a.n a.m a.links.now a.homes.now a.weights.now a.v (bracket_text a.n a.m a.links.now a.homes.now a.weights.now a.v i.result i.ensures (omega (arith, c.before.if1.false)))),
     )
 
 vertex-leading-requires : (t : ℕ) → vertex-lts.Need-leading-requires (
@@ -227,11 +227,11 @@ vertex-loop-holds t c =
     let x = c.before.before.before.before.taxa in
     let f = c.before.leading in
     let j = c.next-with in
-    let text = bracket-text a.n a.m a.links.now a.homes.now a.weights.now a.v i.result i.ensures (omega (arith, c.before.before.before.before.before.before.if1.false)) in (
-      left-all x.new.1.1.1.0 x.result f.result (kids a.n a.m a.links.now a.homes.now a.weights.now a.v j.result),
+    let text = bracket_text a.n a.m a.links.now a.homes.now a.weights.now a.v i.result i.ensures (omega (arith, c.before.before.before.before.before.before.if1.false)) in (
+      left_all x.new.1.1.1.0 x.result f.result (kids a.n a.m a.links.now a.homes.now a.weights.now a.v j.result),
       j.ensures.high,
       j.ensures.hit,
-      rest-room a.n a.m a.links.now a.homes.now a.weights.now a.v text a.out.now x.new.1.1.1.0 a.at x.result f.result j.result x.ensures.0 x.ensures.1 f.ensures j.ensures pre.1,
+      rest_room a.n a.m a.links.now a.homes.now a.weights.now a.v text a.out.now x.new.1.1.1.0 a.at x.result f.result j.result x.ensures.0 x.ensures.1 f.ensures j.ensures pre.1,
     )
 
 vertex-put-requires : (t : ℕ) → vertex-lts.Need-put-requires (
@@ -259,9 +259,9 @@ vertex-put-requires t c κs =
     let x = c.before.before.before.before.before.before.before.taxa in
     let f = c.before.before.before.before.leading in
     let j = c.before.before.before.next-with in
-    let room : l.p + length (l.b ∷ (childText (shapeIn a.n a.m a.links.now a.homes.now a.weights.now) (vertexText (shapeIn a.n a.m a.links.now a.homes.now a.weights.now)) l.c)) ≤ 1000000 =
-    left-room x.new.1.1.1.0 x.result (led f.result (kids a.n a.m a.links.now a.homes.now a.weights.now a.v j.result)) l.out l.p l.b (childText (shapeIn a.n a.m a.links.now a.homes.now a.weights.now) (vertexText (shapeIn a.n a.m a.links.now a.homes.now a.weights.now)) l.c) (kids a.n a.m a.links.now a.homes.now a.weights.now a.v (l.c + 1)) _ 1000000 l.invariant.0 (ap (map (childText (shapeIn a.n a.m a.links.now a.homes.now a.weights.now) (vertexText (shapeIn a.n a.m a.links.now a.homes.now a.weights.now)))) (here-some a.links.now a.v a.v l.c (omega arith) (l.invariant.2 (omega arith)))) (omega (arith, l.invariant.3)) in
-    let long = length-append (vertexText (shapeIn a.n a.m a.links.now a.homes.now a.weights.now) l.c) (58 ∷ decimal (get_or a.weights.now l.c 0)) in
+    let room : l.p + length (l.b ∷ (child_text (shape_in a.n a.m a.links.now a.homes.now a.weights.now) (vertex_text (shape_in a.n a.m a.links.now a.homes.now a.weights.now)) l.c)) ≤ 1000000 =
+    left_room x.new.1.1.1.0 x.result (led f.result (kids a.n a.m a.links.now a.homes.now a.weights.now a.v j.result)) l.out l.p l.b (child_text (shape_in a.n a.m a.links.now a.homes.now a.weights.now) (vertex_text (shape_in a.n a.m a.links.now a.homes.now a.weights.now)) l.c) (kids a.n a.m a.links.now a.homes.now a.weights.now a.v (l.c + 1)) _ 1000000 l.invariant.0 (ap (map (child_text (shape_in a.n a.m a.links.now a.homes.now a.weights.now) (vertex_text (shape_in a.n a.m a.links.now a.homes.now a.weights.now)))) (here_some a.links.now a.v a.v l.c (omega arith) (l.invariant.2 (omega arith)))) (omega (arith, l.invariant.3)) in
+    let long = length-append (vertex_text (shape_in a.n a.m a.links.now a.homes.now a.weights.now) l.c) (58 ∷ decimal (get_or a.weights.now l.c 0)) in
     omega (arith, room)
 
 vertex-vertex-requires : (t : ℕ) → vertex-lts.Need-vertex-requires (
@@ -289,9 +289,9 @@ vertex-vertex-requires t c κs =
     let x = c.before.before.before.before.before.before.before.before.before.before.before.taxa in
     let f = c.before.before.before.before.before.before.before.before.leading in
     let j = c.before.before.before.before.before.before.before.next-with in
-    let room : l.p + length (l.b ∷ (childText (shapeIn a.n a.m a.links.now a.homes.now a.weights.now) (vertexText (shapeIn a.n a.m a.links.now a.homes.now a.weights.now)) l.c)) ≤ 1000000 =
-    left-room x.new.1.1.1.0 x.result (led f.result (kids a.n a.m a.links.now a.homes.now a.weights.now a.v j.result)) l.out l.p l.b (childText (shapeIn a.n a.m a.links.now a.homes.now a.weights.now) (vertexText (shapeIn a.n a.m a.links.now a.homes.now a.weights.now)) l.c) (kids a.n a.m a.links.now a.homes.now a.weights.now a.v (l.c + 1)) _ 1000000 l.invariant.0 (ap (map (childText (shapeIn a.n a.m a.links.now a.homes.now a.weights.now) (vertexText (shapeIn a.n a.m a.links.now a.homes.now a.weights.now)))) (here-some a.links.now a.v a.v l.c (omega arith) (l.invariant.2 (omega arith)))) (omega (arith, l.invariant.3)) in
-    let long = length-append (vertexText (shapeIn a.n a.m a.links.now a.homes.now a.weights.now) l.c) (58 ∷ decimal (get_or a.weights.now l.c 0)) in
+    let room : l.p + length (l.b ∷ (child_text (shape_in a.n a.m a.links.now a.homes.now a.weights.now) (vertex_text (shape_in a.n a.m a.links.now a.homes.now a.weights.now)) l.c)) ≤ 1000000 =
+    left_room x.new.1.1.1.0 x.result (led f.result (kids a.n a.m a.links.now a.homes.now a.weights.now a.v j.result)) l.out l.p l.b (child_text (shape_in a.n a.m a.links.now a.homes.now a.weights.now) (vertex_text (shape_in a.n a.m a.links.now a.homes.now a.weights.now)) l.c) (kids a.n a.m a.links.now a.homes.now a.weights.now a.v (l.c + 1)) _ 1000000 l.invariant.0 (ap (map (child_text (shape_in a.n a.m a.links.now a.homes.now a.weights.now) (vertex_text (shape_in a.n a.m a.links.now a.homes.now a.weights.now)))) (here_some a.links.now a.v a.v l.c (omega arith) (l.invariant.2 (omega arith)))) (omega (arith, l.invariant.3)) in
+    let long = length-append (vertex_text (shape_in a.n a.m a.links.now a.homes.now a.weights.now) l.c) (58 ∷ decimal (get_or a.weights.now l.c 0)) in
     (omega (arith, c.before.before.before.before.before.before.before.before.before.before.before.before.before.before.before.before.before.before.before.requires.0), ((omega (arith, pre.0.0), pre.0.1, pre.0.2, pre.0.3, pre.0.4, pre.0.5), omega (arith, room, long, c.before.before.before.put.ensures.1)))
 
 vertex-mul-weigh : (t : ℕ) → vertex-lts.Need-overflow-mul-weigh (
@@ -362,9 +362,9 @@ vertex-weigh-requires t c κs =
     let x = c.before.before.before.before.before.before.before.before.before.before.before.before.before.before.before.before.taxa in
     let f = c.before.before.before.before.before.before.before.before.before.before.before.before.before.leading in
     let j = c.before.before.before.before.before.before.before.before.before.before.before.before.next-with in
-    let room : l.p + length (l.b ∷ (childText (shapeIn a.n a.m a.links.now a.homes.now a.weights.now) (vertexText (shapeIn a.n a.m a.links.now a.homes.now a.weights.now)) l.c)) ≤ 1000000 =
-    left-room x.new.1.1.1.0 x.result (led f.result (kids a.n a.m a.links.now a.homes.now a.weights.now a.v j.result)) l.out l.p l.b (childText (shapeIn a.n a.m a.links.now a.homes.now a.weights.now) (vertexText (shapeIn a.n a.m a.links.now a.homes.now a.weights.now)) l.c) (kids a.n a.m a.links.now a.homes.now a.weights.now a.v (l.c + 1)) _ 1000000 l.invariant.0 (ap (map (childText (shapeIn a.n a.m a.links.now a.homes.now a.weights.now) (vertexText (shapeIn a.n a.m a.links.now a.homes.now a.weights.now)))) (here-some a.links.now a.v a.v l.c (omega arith) (l.invariant.2 (omega arith)))) (omega (arith, l.invariant.3)) in
-    let long = length-append (vertexText (shapeIn a.n a.m a.links.now a.homes.now a.weights.now) l.c) (58 ∷ decimal (get_or a.weights.now l.c 0)) in
+    let room : l.p + length (l.b ∷ (child_text (shape_in a.n a.m a.links.now a.homes.now a.weights.now) (vertex_text (shape_in a.n a.m a.links.now a.homes.now a.weights.now)) l.c)) ≤ 1000000 =
+    left_room x.new.1.1.1.0 x.result (led f.result (kids a.n a.m a.links.now a.homes.now a.weights.now a.v j.result)) l.out l.p l.b (child_text (shape_in a.n a.m a.links.now a.homes.now a.weights.now) (vertex_text (shape_in a.n a.m a.links.now a.homes.now a.weights.now)) l.c) (kids a.n a.m a.links.now a.homes.now a.weights.now a.v (l.c + 1)) _ 1000000 l.invariant.0 (ap (map (child_text (shape_in a.n a.m a.links.now a.homes.now a.weights.now) (vertex_text (shape_in a.n a.m a.links.now a.homes.now a.weights.now)))) (here_some a.links.now a.v a.v l.c (omega arith) (l.invariant.2 (omega arith)))) (omega (arith, l.invariant.3)) in
+    let long = length-append (vertex_text (shape_in a.n a.m a.links.now a.homes.now a.weights.now) l.c) (58 ∷ decimal (get_or a.weights.now l.c 0)) in
     omega (arith, room, long, c.before.before.before.before.before.before.before.before.put.ensures.1, c.before.before.before.before.vertex.ensures.1)
 
 vertex-add-next-with : (t : ℕ) → vertex-lts.Need-overflow-add-next-with (
@@ -456,10 +456,10 @@ vertex-loop-again t c =
     let r = c.before.before.before.before.before.before.before.before.vertex in
     let w = c.before.before.before.weigh in
     let h = c.next-with2 in
-    let long = length-append (vertexText (shapeIn a.n a.m a.links.now a.homes.now a.weights.now) l.c) (58 ∷ decimal (get_or a.weights.now l.c 0)) in (
-      left-same x.new.1.1.1.0 x.result (led f.result (kids a.n a.m a.links.now a.homes.now a.weights.now a.v j.result)) w.new.1.0 w.result 44 _ _ (ap (map (childText (shapeIn a.n a.m a.links.now a.homes.now a.weights.now) (vertexText (shapeIn a.n a.m a.links.now a.homes.now a.weights.now)))) h.ensures.same)
-          (left-turn x.new.1.1.1.0 x.result (led f.result (kids a.n a.m a.links.now a.homes.now a.weights.now a.v j.result)) l.out w.new.1.0 l.p w.result l.b (childText (shapeIn a.n a.m a.links.now a.homes.now a.weights.now) (vertexText (shapeIn a.n a.m a.links.now a.homes.now a.weights.now)) l.c) (kids a.n a.m a.links.now a.homes.now a.weights.now a.v (l.c + 1)) _ l.invariant.0 (ap (map (childText (shapeIn a.n a.m a.links.now a.homes.now a.weights.now) (vertexText (shapeIn a.n a.m a.links.now a.homes.now a.weights.now)))) (here-some a.links.now a.v a.v l.c (omega arith) (l.invariant.2 (omega arith))))
-          (item-stored l.out q.new.0 r.new.1.1.1.1.1.1.0 w.new.1.0 (vertexText (shapeIn a.n a.m a.links.now a.homes.now a.weights.now) l.c) l.p q.result r.result l.b (get_or a.weights.now l.c 0)
+    let long = length-append (vertex_text (shape_in a.n a.m a.links.now a.homes.now a.weights.now) l.c) (58 ∷ decimal (get_or a.weights.now l.c 0)) in (
+      left_same x.new.1.1.1.0 x.result (led f.result (kids a.n a.m a.links.now a.homes.now a.weights.now a.v j.result)) w.new.1.0 w.result 44 _ _ (ap (map (child_text (shape_in a.n a.m a.links.now a.homes.now a.weights.now) (vertex_text (shape_in a.n a.m a.links.now a.homes.now a.weights.now)))) h.ensures.same)
+          (left_turn x.new.1.1.1.0 x.result (led f.result (kids a.n a.m a.links.now a.homes.now a.weights.now a.v j.result)) l.out w.new.1.0 l.p w.result l.b (child_text (shape_in a.n a.m a.links.now a.homes.now a.weights.now) (vertex_text (shape_in a.n a.m a.links.now a.homes.now a.weights.now)) l.c) (kids a.n a.m a.links.now a.homes.now a.weights.now a.v (l.c + 1)) _ l.invariant.0 (ap (map (child_text (shape_in a.n a.m a.links.now a.homes.now a.weights.now) (vertex_text (shape_in a.n a.m a.links.now a.homes.now a.weights.now)))) (here_some a.links.now a.v a.v l.c (omega arith) (l.invariant.2 (omega arith))))
+          (item_stored l.out q.new.0 r.new.1.1.1.1.1.1.0 w.new.1.0 (vertex_text (shape_in a.n a.m a.links.now a.homes.now a.weights.now) l.c) l.p q.result r.result l.b (get_or a.weights.now l.c 0)
           q.ensures.0 q.ensures.1 r.ensures.0 r.ensures.1 w.ensures.0)
           (omega (arith, long, q.ensures.1, r.ensures.1, w.ensures.1))),
       h.ensures.high,
@@ -492,8 +492,8 @@ vertex-put-requires-2 t c κs =
     let x = c.before.before.before.before.before.before.before.taxa in
     let f = c.before.before.before.before.leading in
     let j = c.before.before.before.next-with in
-    let end = left-none x.new.1.1.1.0 x.result (led f.result (kids a.n a.m a.links.now a.homes.now a.weights.now a.v j.result)) l.out l.p l.b _ l.invariant.0
-    (ap (map (childText (shapeIn a.n a.m a.links.now a.homes.now a.weights.now) (vertexText (shapeIn a.n a.m a.links.now a.homes.now a.weights.now)))) (those-end (λ k. eqb (get_or a.links.now k 0) a.v) a.v l.c (omega arith))) in
+    let end = left_none x.new.1.1.1.0 x.result (led f.result (kids a.n a.m a.links.now a.homes.now a.weights.now a.v j.result)) l.out l.p l.b _ l.invariant.0
+    (ap (map (child_text (shape_in a.n a.m a.links.now a.homes.now a.weights.now) (vertex_text (shape_in a.n a.m a.links.now a.homes.now a.weights.now)))) (those_end (λ k. eqb (get_or a.links.now k 0) a.v) a.v l.c (omega arith))) in
     omega (arith, end.1, l.invariant.3)
 
 vertex-same-length-2 : (t : ℕ) → vertex-lts.Need-same-length-2 (
@@ -521,7 +521,7 @@ vertex-same-length-2 t c =
     let x = c.before.before.before.before.before.before.before.before.before.before.taxa in
     let f = c.before.before.before.before.before.before.before.leading in
     let j = c.before.before.before.before.before.before.next-with in
-    c.before.before.put2.auto.0 ∙ left-length x.new.1.1.1.0 x.result (led f.result (kids a.n a.m a.links.now a.homes.now a.weights.now a.v j.result)) l.out l.p l.b _ l.invariant.0 ∙ x.auto.1.1.1.0
+    c.before.before.put2.auto.0 ∙ left_length x.new.1.1.1.0 x.result (led f.result (kids a.n a.m a.links.now a.homes.now a.weights.now a.v j.result)) l.out l.p l.b _ l.invariant.0 ∙ x.auto.1.1.1.0
 
 vertex-returns-2 : (t : ℕ) → vertex-lts.Need-returns-2 (
   lone-reads.Asked,
@@ -549,9 +549,9 @@ vertex-returns-2 t c =
     let f = c.before.before.before.before.before.before.before.leading in
     let j = c.before.before.before.before.before.before.next-with in
     let i = c.before.before.before.before.before.before.before.before.before.before.before.before.before.lone in
-    let text = bracket-text a.n a.m a.links.now a.homes.now a.weights.now a.v i.result i.ensures (omega (arith, c.before.before.before.before.before.before.before.before.before.before.before.before.if1.false)) in
-    let end = left-none x.new.1.1.1.0 x.result (led f.result (kids a.n a.m a.links.now a.homes.now a.weights.now a.v j.result)) l.out l.p l.b _ l.invariant.0
-    (ap (map (childText (shapeIn a.n a.m a.links.now a.homes.now a.weights.now) (vertexText (shapeIn a.n a.m a.links.now a.homes.now a.weights.now)))) (those-end (λ k. eqb (get_or a.links.now k 0) a.v) a.v l.c (omega arith))) in
+    let text = bracket_text a.n a.m a.links.now a.homes.now a.weights.now a.v i.result i.ensures (omega (arith, c.before.before.before.before.before.before.before.before.before.before.before.before.if1.false)) in
+    let end = left_none x.new.1.1.1.0 x.result (led f.result (kids a.n a.m a.links.now a.homes.now a.weights.now a.v j.result)) l.out l.p l.b _ l.invariant.0
+    (ap (map (child_text (shape_in a.n a.m a.links.now a.homes.now a.weights.now) (vertex_text (shape_in a.n a.m a.links.now a.homes.now a.weights.now)))) (those_end (λ k. eqb (get_or a.links.now k 0) a.v) a.v l.c (omega arith))) in
     let d = c.before.before.put2 in
     let all = closed a.n a.m a.links.now a.homes.now a.weights.now a.v text a.out.now x.new.1.1.1.0 a.at x.result f.result j.result x.ensures.0 x.ensures.1 f.ensures j.ensures
     l.out d.new.0 l.p end.0 end.1 d.ensures.0 in

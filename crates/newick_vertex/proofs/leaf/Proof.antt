@@ -4,7 +4,7 @@ use mathlib.Core.List.{◌∷◌}
 use lib.ListN.{length-append}
 use borrow.Author.Rules.{rules}
 use Rattle.statement.specs.Decimal.{decimal}
-use Rattle.newick_vertex.proofs.Stores.{item-stored}
+use Rattle.newick_vertex.proofs.Stores.{item_stored}
 use Rattle.newick_vertex.proofs.leaf.Statement.{statement}
 use Rattle.newick_vertex.proofs.leaf.Tie as tie
 
@@ -30,7 +30,7 @@ returns c =
     let p = c.before.before.before.before.before.before.before.before.before.before.put in
     let q = c.before.before.before.before.before.before.put-number in
     let w = c.before.before.weigh in (
-      item-stored a.out.now p.new.0 q.new.0 w.new.1.0 (decimal a.taxon) a.at p.result q.result a.b 0
+      item_stored a.out.now p.new.0 q.new.0 w.new.1.0 (decimal a.taxon) a.at p.result q.result a.b 0
           p.ensures.0 p.ensures.1 q.ensures.0 q.ensures.1 w.ensures.0,
       omega (arith, p.ensures.1, q.ensures.1, w.ensures.1, length-append (decimal a.taxon) (58 ∷ decimal 0)),
     )

@@ -6,7 +6,7 @@ use lib.Dec.{eqb}
 use lib.ListN.{get_or}
 use borrow.Author.Rules.{rules}
 use borrow.Author.Tests.{ne_eqb}
-use Rattle.newick_list.proofs.Those.{those-skip}
+use Rattle.newick_list.proofs.Those.{those_skip}
 use Rattle.newick_vertex.specs.Arrays.{having}
 use Rattle.newick_vertex.proofs.next_with.Statement.{statement}
 use Rattle.newick_vertex.proofs.next_with.Tie as tie
@@ -43,7 +43,7 @@ loop-again c =
     let a = l.before.args in (
       omega arith,
       omega arith,
-      l.loop.invariant.2 ∙ those-skip (λ k. eqb (get_or a.xs.now k 0) a.x) a.to l.loop.j (omega arith) (ne_eqb _ a.x c.if1.false),
+      l.loop.invariant.2 ∙ those_skip (λ k. eqb (get_or a.xs.now k 0) a.x) a.to l.loop.j (omega arith) (ne_eqb _ a.x c.if1.false),
     )
 
 returns-2 : tie.Need-returns-2 invariant-loop decreases-loop

@@ -6,16 +6,16 @@ use mathlib.Core.List.{map}
 use lib.Dec.{eqb}
 use lib.ListN.{get_or}
 use borrow.Author.Rules.{rules}
-use Rattle.statement.specs.NewickText.{led, leafText}
-use Rattle.newick_list.proofs.Those.{those-end}
+use Rattle.statement.specs.NewickText.{led, leaf_text}
+use Rattle.newick_list.proofs.Those.{those_end}
 use Rattle.newick_vertex.specs.Arrays.{having}
-use Rattle.newick_vertex.proofs.Bare.{here-some}
-use Rattle.newick_vertex.proofs.Stores.{Left, left-all, left-same, left-length, left-room, left-turn, left-none}
+use Rattle.newick_vertex.proofs.Bare.{here_some}
+use Rattle.newick_vertex.proofs.Stores.{Left, left_all, left_same, left_length, left_room, left_turn, left_none}
 use Rattle.newick_vertex.proofs.taxa.Statement.{statement}
 use Rattle.newick_vertex.proofs.taxa.Tie as tie
 
 abbrev invariant-loop : tie.invariant-loop
-invariant-loop n homes v out₀ at p₀ b₀ i₀ out p b i = Left out₀ at (led 40 (map leafText (having homes v 0 n))) out p b (map leafText (having homes v i n)) × (i ≤ n) × (i < n → get_or homes i 0 ≡ v)
+invariant-loop n homes v out₀ at p₀ b₀ i₀ out p b i = Left out₀ at (led 40 (map leaf_text (having homes v 0 n))) out p b (map leaf_text (having homes v i n)) × (i ≤ n) × (i < n → get_or homes i 0 ≡ v)
 
 abbrev decreases-loop : tie.decreases-loop
 decreases-loop n homes v out₀ at p₀ b₀ i₀ out p b i = n - i
@@ -27,7 +27,7 @@ loop-holds : tie.Need-loop-init invariant-loop decreases-loop
 loop-holds c =
     let a = c.before.before.before.args in
     let i = c.next-with in (
-      left-same a.out.now a.at (led 40 (map leafText (having a.homes.now a.v 0 a.n))) a.out.now a.at 40 _ _ (ap (map leafText) i.ensures.same) (left-all a.out.now a.at 40 (map leafText (having a.homes.now a.v 0 a.n))),
+      left_same a.out.now a.at (led 40 (map leaf_text (having a.homes.now a.v 0 a.n))) a.out.now a.at 40 _ _ (ap (map leaf_text) i.ensures.same) (left_all a.out.now a.at 40 (map leaf_text (having a.homes.now a.v 0 a.n))),
       i.ensures.high,
       i.ensures.hit,
     )
@@ -36,8 +36,8 @@ leaf-requires : tie.Need-leaf-requires invariant-loop decreases-loop
 leaf-requires c κs =
     let a = c.before.before.before.before.before.before.args in
     let l = c.before.before.loop in
-    left-room a.out.now a.at (led 40 (map leafText (having a.homes.now a.v 0 a.n))) l.out l.p l.b (leafText l.i) (map leafText (having a.homes.now a.v (l.i + 1) a.n)) _ 1000000
-    l.invariant.0 (ap (map leafText) (here-some a.homes.now a.v a.n l.i (omega arith) (l.invariant.2 (omega arith)))) c.before.before.before.before.before.before.requires.1
+    left_room a.out.now a.at (led 40 (map leaf_text (having a.homes.now a.v 0 a.n))) l.out l.p l.b (leaf_text l.i) (map leaf_text (having a.homes.now a.v (l.i + 1) a.n)) _ 1000000
+    l.invariant.0 (ap (map leaf_text) (here_some a.homes.now a.v a.n l.i (omega arith) (l.invariant.2 (omega arith)))) c.before.before.before.before.before.before.requires.1
 
 add-next-with : tie.Need-overflow-add-next-with invariant-loop decreases-loop
 add-next-with c = search rules
@@ -54,9 +54,9 @@ loop-again c =
     let l = c.before.before.before.before.before.before.loop in
     let f = c.before.before.before.leaf in
     let i = c.next-with2 in (
-      left-same a.out.now a.at (led 40 (map leafText (having a.homes.now a.v 0 a.n))) f.new.1.1.0 f.result 44 _ _ (ap (map leafText) i.ensures.same)
-          (left-turn a.out.now a.at (led 40 (map leafText (having a.homes.now a.v 0 a.n))) l.out f.new.1.1.0 l.p f.result l.b (leafText l.i) (map leafText (having a.homes.now a.v (l.i + 1) a.n)) _
-          l.invariant.0 (ap (map leafText) (here-some a.homes.now a.v a.n l.i (omega arith) (l.invariant.2 (omega arith)))) f.ensures.0 f.ensures.1),
+      left_same a.out.now a.at (led 40 (map leaf_text (having a.homes.now a.v 0 a.n))) f.new.1.1.0 f.result 44 _ _ (ap (map leaf_text) i.ensures.same)
+          (left_turn a.out.now a.at (led 40 (map leaf_text (having a.homes.now a.v 0 a.n))) l.out f.new.1.1.0 l.p f.result l.b (leaf_text l.i) (map leaf_text (having a.homes.now a.v (l.i + 1) a.n)) _
+          l.invariant.0 (ap (map leaf_text) (here_some a.homes.now a.v a.n l.i (omega arith) (l.invariant.2 (omega arith)))) f.ensures.0 f.ensures.1),
       i.ensures.high,
       i.ensures.hit,
     )
@@ -65,14 +65,14 @@ same_length : tie.Need-same-length invariant-loop decreases-loop
 same_length c =
     let a = c.before.before.before.before.before.args in
     let l = c.before.loop in
-    left-length a.out.now a.at (led 40 (map leafText (having a.homes.now a.v 0 a.n))) l.out l.p l.b _ l.invariant.0
+    left_length a.out.now a.at (led 40 (map leaf_text (having a.homes.now a.v 0 a.n))) l.out l.p l.b _ l.invariant.0
 
 returns : tie.Need-returns invariant-loop decreases-loop
 returns c =
     let a = c.before.before.before.before.before.args in
     let l = c.before.loop in
-    left-none a.out.now a.at (led 40 (map leafText (having a.homes.now a.v 0 a.n))) l.out l.p l.b _ l.invariant.0
-    (ap (map leafText) (those-end (λ j. eqb (get_or a.homes.now j 0) a.v) a.n l.i (omega arith)))
+    left_none a.out.now a.at (led 40 (map leaf_text (having a.homes.now a.v 0 a.n))) l.out l.p l.b _ l.invariant.0
+    (ap (map leaf_text) (those_end (λ j. eqb (get_or a.homes.now j 0) a.v) a.n l.i (omega arith)))
 
 pub taxa-spec : {M : Type 1} → statement M
 taxa-spec =

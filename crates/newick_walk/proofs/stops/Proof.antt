@@ -1,6 +1,6 @@
 -- The bytes that begin a token.
 use mathlib.Core.Logic.{inl, inr}
-use Rattle.newick_walk.proofs.Steps.{goes_at, stops-low, stops-high}
+use Rattle.newick_walk.proofs.Steps.{goes_at, stops_low, stops_high}
 use Rattle.newick_walk.proofs.stops.Statement.{statement}
 use Rattle.newick_walk.proofs.stops.Tie as tie
 
@@ -14,10 +14,10 @@ returns-3 : tie.Need-returns-3
 returns-3 c = goes_at _ (inr (inr c.if3.true))
 
 returns-4 : tie.Need-returns-4
-returns-4 c = stops-low _ c.before.before.before.if1.false c.before.before.if2.false c.before.if3.false c.if4.true
+returns-4 c = stops_low _ c.before.before.before.if1.false c.before.before.if2.false c.before.if3.false c.if4.true
 
 returns-5 : tie.Need-returns-5
-returns-5 c = stops-high _ c.if4.false
+returns-5 c = stops_high _ c.if4.false
 
 pub stops-spec : {M : Type 1} → statement M
 stops-spec = tie.close (tie.spec returns returns-2 returns-3 returns-4 returns-5)

@@ -3,15 +3,15 @@ use Prim.Native.Nat.{◌-◌, ◌≤◌}
 use native.Mathlib.Omega.{arith}
 use mathlib.Core.Path.{sym, ◌∙◌}
 use lib.ListN.{length}
-use Rattle.newick_walk.specs.Machine.{Walk, walkIn, startSpot}
+use Rattle.newick_walk.specs.Machine.{Walk, walk_in, start_spot}
 use Rattle.newick_walk.proofs.Steps.{inside_of}
-use Rattle.newick_walk.proofs.Turns.{Going, going-begun, going_on, going-ended}
+use Rattle.newick_walk.proofs.Turns.{Going, going_begun, going_on, going_ended}
 use Rattle.newick_walk.proofs.walk_over.Statement.{statement}
 use Rattle.newick_walk.proofs.walk_over.Tie as tie
 
 abbrev invariant-loop : tie.invariant-loop
 invariant-loop n t opened₀ clusters₀ weights₀ places₀ many₀ w₀ opened clusters weights places many w =
-    Going n t (walkIn startSpot opened₀ clusters₀ weights₀ places₀ many₀) (walkIn w opened clusters weights places many)
+    Going n t (walk_in start_spot opened₀ clusters₀ weights₀ places₀ many₀) (walk_in w opened clusters weights places many)
     × (w.depth ≤ w.at) × (w.at ≤ length t) × (w.noted.rows ≤ 125)
 
 abbrev decreases-loop : tie.decreases-loop
@@ -19,10 +19,10 @@ decreases-loop n t opened₀ clusters₀ weights₀ places₀ many₀ w₀ opene
 
 -- the walk with the arrays as they were lent
 abbrev lent : tie.Start invariant-loop decreases-loop → Walk
-lent s = let a = s.args in walkIn startSpot a.opened.now a.clusters.now a.weights.now a.places.now a.many.now
+lent s = let a = s.args in walk_in start_spot a.opened.now a.clusters.now a.weights.now a.places.now a.many.now
 
 loop-holds : tie.Need-loop-init invariant-loop decreases-loop
-loop-holds c = let s = c.before in (going-begun s.args.n s.args.t.now (lent s), omega arith, omega arith, omega arith)
+loop-holds c = let s = c.before in (going_begun s.args.n s.args.t.now (lent s), omega arith, omega arith, omega arith)
 
 peek-requires : tie.Need-peek-requires invariant-loop decreases-loop
 peek-requires c κs = tt
@@ -37,8 +37,8 @@ returns c =
     let s = l.before.before in
     let a = s.args in
     let f = l.loop in
-    let w = walkIn f.w f.opened f.clusters f.weights f.places f.many in
-    (going-ended a.n a.t.now (lent s) w p.peek.result p.peek.ensures l.loop.invariant.0 (sym c.before.stops.ensures ∙ c.if1.true), l.loop.invariant.3)
+    let w = walk_in f.w f.opened f.clusters f.weights f.places f.many in
+    (going_ended a.n a.t.now (lent s) w p.peek.result p.peek.ensures l.loop.invariant.0 (sym c.before.stops.ensures ∙ c.if1.true), l.loop.invariant.3)
 
 turn-requires : tie.Need-turn-requires invariant-loop decreases-loop
 turn-requires c κs =
@@ -67,9 +67,9 @@ loop-again c =
     let s = l.before.before in
     let a = s.args in
     let f = l.loop in
-    let w = walkIn f.w f.opened f.clusters f.weights f.places f.many in
+    let w = walk_in f.w f.opened f.clusters f.weights f.places f.many in
     let k = c.turn.new.1.1.1.1 in
-    let r = walkIn c.turn.result k.0 k.1.0 k.1.1.0 k.1.1.1.0 k.1.1.1.1.0 in
+    let r = walk_in c.turn.result k.0 k.1.0 k.1.1.0 k.1.1.1.0 k.1.1.1.1.0 in
     let o = c.turn.ensures.1 in
     (going_on a.n a.t.now (lent s) w p.peek.result p.peek.ensures l.loop.invariant.0 r (sym e.before.stops.ensures ∙ e.if1.false) c.turn.ensures.0, o.shallow, o.within, o.few)
 

@@ -2,7 +2,7 @@
 use mathlib.Core.Path.{◌≡◌}
 use lib.ListN.{length}
 use borrow.Author.Rules.{rules}
-use Rattle.tree_write.proofs.GivenRows.{cluster-small}
+use Rattle.tree_write.proofs.GivenRows.{cluster_small}
 use Rattle.newick_write.proofs.Given.{room}
 use Rattle.newick_write.proofs.arrays_of.Statement.{statement}
 use Rattle.newick_write.proofs.arrays_of.Tie as tie
@@ -14,7 +14,7 @@ links-of-requires c κs =
     let hc : length a.s.clusters ≡ 125 = search rules in
     let hw : length a.s.weights ≡ 125 = search rules in
     let r = room a.n a.s pre.0 pre.1 pre.2 hc hw in
-    (r.rows, λ j l. cluster-small a.s r a.n j pre.1 l)
+    (r.rows, λ j l. cluster_small a.s r a.n j pre.1 l)
 
 homes-of-requires : tie.Need-homes-of-requires
 homes-of-requires c κs =

@@ -8,7 +8,7 @@ use borrow.Author.Rules.{rules}
 use Rattle.statement.specs.Rows.{Row}
 use Rattle.statement.specs.Tree.{home_of}
 use Rattle.tree_write.specs.Vertices.{ClustersOf}
-use Rattle.newick_write.proofs.Given.{one-filled}
+use Rattle.newick_write.proofs.Given.{one_filled}
 use Rattle.newick_write.proofs.homes_of.Statement.{statement}
 use Rattle.newick_write.proofs.homes_of.Tie as tie
 
@@ -43,7 +43,7 @@ loop-again : tie.Need-loop-preserved invariant-loop decreases-loop
 loop-again c =
     let l = c.before.before.loop in
     let a = c.before.before.before.args in
-    (omega arith, (λ rows these. one-filled (home_of rows) l.homes l.i c.Home-of.result (omega (arith, l.invariant.2, c.before.before.before.requires.1)) (l.invariant.1 rows these) (c.Home-of.ensures.1 rows these)), length-set l.homes l.i _ ∙ l.invariant.2)
+    (omega arith, (λ rows these. one_filled (home_of rows) l.homes l.i c.Home-of.result (omega (arith, l.invariant.2, c.before.before.before.requires.1)) (l.invariant.1 rows these) (c.Home-of.ensures.1 rows these)), length-set l.homes l.i _ ∙ l.invariant.2)
 
 returns : tie.Need-returns invariant-loop decreases-loop
 returns c = λ rows these j k. c.before.loop.invariant.1 rows these j (omega arith)

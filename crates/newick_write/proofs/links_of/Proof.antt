@@ -8,7 +8,7 @@ use borrow.Author.Rules.{rules}
 use Rattle.statement.specs.Rows.{Row}
 use Rattle.statement.specs.Tree.{link_of}
 use Rattle.tree_write.specs.Vertices.{ClustersOf}
-use Rattle.newick_write.proofs.Given.{one-filled}
+use Rattle.newick_write.proofs.Given.{one_filled}
 use Rattle.newick_write.proofs.links_of.Statement.{statement}
 use Rattle.newick_write.proofs.links_of.Tie as tie
 
@@ -43,7 +43,7 @@ loop-again : tie.Need-loop-preserved invariant-loop decreases-loop
 loop-again c =
     let l = c.before.before.loop in
     let a = c.before.before.before.args in
-    (omega arith, (λ rows these. one-filled (link_of a.n rows) l.links l.i c.link-of.result (omega (arith, l.invariant.2, c.before.before.before.requires.0)) (l.invariant.1 rows these) (c.link-of.ensures.1 rows these)), length-set l.links l.i _ ∙ l.invariant.2)
+    (omega arith, (λ rows these. one_filled (link_of a.n rows) l.links l.i c.link-of.result (omega (arith, l.invariant.2, c.before.before.before.requires.0)) (l.invariant.1 rows these) (c.link-of.ensures.1 rows these)), length-set l.links l.i _ ∙ l.invariant.2)
 
 returns : tie.Need-returns invariant-loop decreases-loop
 returns c = λ rows these j k. c.before.loop.invariant.1 rows these j (omega arith)

@@ -3,7 +3,7 @@ use native.Mathlib.Omega.{arith}
 use mathlib.Core.Path.{◌≡◌}
 use lib.ListN.{length}
 use borrow.Author.Rules.{rules}
-use Rattle.newick_write.proofs.Given.{room, arrays-short, text-put}
+use Rattle.newick_write.proofs.Given.{room, arrays_short, text_put}
 use Rattle.newick_write.proofs.put_text.Statement.{statement}
 use Rattle.newick_write.proofs.put_text.Tie as tie
 
@@ -20,7 +20,7 @@ vertex-requires c κs =
     let hh : length a.homes.now ≡ 64 = search rules in
     let r = room a.n a.s pre.0 pre.1 pre.2 hc hw in (
       (omega arith, omega (arith, r.rows), omega (arith, r.rows), omega (arith, pre.0), pre.0, r.rows),
-      omega (arith, arrays-short a.n a.s pre.0 pre.1 pre.2 hc hw a.links.now a.homes.now pre.3.links pre.3.homes),
+      omega (arith, arrays_short a.n a.s pre.0 pre.1 pre.2 hc hw a.links.now a.homes.now pre.3.links pre.3.homes),
     )
 
 put-requires : tie.Need-put-requires
@@ -29,7 +29,7 @@ put-requires c κs =
     let pre = c.before.before.before.before.before.before.before.before.before.before.requires in
     let hc : length a.s.clusters ≡ 125 = search rules in
     let hw : length a.s.weights ≡ 125 = search rules in
-    omega (arith, c.before.before.before.vertex.ensures.1, arrays-short a.n a.s pre.0 pre.1 pre.2 hc hw a.links.now a.homes.now pre.3.links pre.3.homes)
+    omega (arith, c.before.before.before.vertex.ensures.1, arrays_short a.n a.s pre.0 pre.1 pre.2 hc hw a.links.now a.homes.now pre.3.links pre.3.homes)
 
 same_length : tie.Need-same-length
 same_length c = search rules
@@ -42,7 +42,7 @@ returns c =
     let hw : length a.s.weights ≡ 125 = search rules in
     let v = c.before.before.before.before.before.before.vertex in
     let p = c.before.before.put in
-    text-put a.n a.s pre.0 pre.1 pre.2 hc hw a.links.now a.homes.now pre.3.links pre.3.homes a.out.now v.new.1.1.1.1.1.1.0 p.new.0 v.result p.result
+    text_put a.n a.s pre.0 pre.1 pre.2 hc hw a.links.now a.homes.now pre.3.links pre.3.homes a.out.now v.new.1.1.1.1.1.1.0 p.new.0 v.result p.result
     v.ensures.0 v.ensures.1 p.ensures.0 p.ensures.1
 
 pub put-text-spec : {M : Type 1} → statement M

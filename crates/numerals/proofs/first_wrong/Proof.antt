@@ -3,19 +3,19 @@ use Prim.Native.Nat.{◌-◌}
 use mathlib.Core.Path.{sym, ◌∙◌}
 use borrow.Author.Rules.{rules}
 use lib.ListN.{length}
-use Rattle.statement.proofs.Lowest.{Looking, looking-begun, looking-on, looking-found, looking-ended}
-use Rattle.numerals.specs.Numerals.{wrongAt}
+use Rattle.statement.proofs.Lowest.{Looking, looking_begun, looking_on, looking_found, looking_ended}
+use Rattle.numerals.specs.Numerals.{wrong_at}
 use Rattle.numerals.proofs.first_wrong.Statement.{statement}
 use Rattle.numerals.proofs.first_wrong.Tie as tie
 
 abbrev invariant-loop : tie.invariant-loop
-invariant-loop fault text p₀ p = Looking (wrongAt fault text) (length text) p
+invariant-loop fault text p₀ p = Looking (wrong_at fault text) (length text) p
 
 abbrev decreases-loop : tie.decreases-loop
 decreases-loop fault text p₀ p = length text - p
 
 loop-holds : tie.Need-loop-init invariant-loop decreases-loop
-loop-holds c = looking-begun
+loop-holds c = looking_begun
 
 wrong-requires : tie.Need-wrong-requires invariant-loop decreases-loop
 wrong-requires c κs = search rules
@@ -23,7 +23,7 @@ wrong-requires c κs = search rules
 returns : tie.Need-returns invariant-loop decreases-loop
 returns c =
     let called = c.before in
-    looking-found called.before.before.loop.invariant called.before.loop-test.true (sym called.wrong.ensures ∙ c.if1.true)
+    looking_found called.before.before.loop.invariant called.before.loop-test.true (sym called.wrong.ensures ∙ c.if1.true)
 
 add-p : tie.Need-overflow-add-p invariant-loop decreases-loop
 add-p c = search rules
@@ -34,10 +34,10 @@ loop-less c = search rules
 loop-again : tie.Need-loop-preserved invariant-loop decreases-loop
 loop-again c =
     let called = c.before in
-    looking-on called.before.before.loop.invariant called.before.loop-test.true (sym called.wrong.ensures ∙ c.if1.false)
+    looking_on called.before.before.loop.invariant called.before.loop-test.true (sym called.wrong.ensures ∙ c.if1.false)
 
 returns-2 : tie.Need-returns-2 invariant-loop decreases-loop
-returns-2 c = looking-ended c.before.loop.invariant c.loop-test.false
+returns-2 c = looking_ended c.before.loop.invariant c.loop-test.false
 
 pub first-wrong-spec : {M : Type 1} → statement M
 first-wrong-spec =

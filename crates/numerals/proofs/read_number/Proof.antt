@@ -6,14 +6,14 @@ use mathlib.Core.Path.{◌≡◌, refl, sym, ◌∙◌}
 use borrow.Author.Rules.{rules}
 use borrow.Author.Tests.{not-true, not-false}
 use lib.ListN.{length, drop}
-use Rattle.statement.specs.Decimal.{onFrom, span}
-use Rattle.numerals.specs.Numerals.{numberAt}
-use Rattle.numerals.proofs.Laws.{tooLarge, number-on, number-ends, text-ends, span-on, span-ends, span_none}
+use Rattle.statement.specs.Decimal.{on_from, span}
+use Rattle.numerals.specs.Numerals.{number_at}
+use Rattle.numerals.proofs.Laws.{too_large, number_on, number_ends, text_ends, span_on, span_ends, span_none}
 use Rattle.numerals.proofs.read_number.Statement.{statement}
 use Rattle.numerals.proofs.read_number.Tie as tie
 
 abbrev invariant-loop : tie.invariant-loop
-invariant-loop text p v₀ i₀ v i = (v ≤ tooLarge) × (min (onFrom v (drop i text)) tooLarge ≡ min (numberAt text p) tooLarge) × (i + span (drop i text) ≡ p + span (drop p text))
+invariant-loop text p v₀ i₀ v i = (v ≤ too_large) × (min (on_from v (drop i text)) too_large ≡ min (number_at text p) too_large) × (i + span (drop i text) ≡ p + span (drop p text))
 
 abbrev decreases-loop : tie.decreases-loop
 decreases-loop text p v₀ i₀ v i = length text - i
@@ -31,9 +31,9 @@ returns : tie.Need-returns invariant-loop decreases-loop
 returns c =
     let turn = c.before.before.before in
     let l = turn.before.loop in
-    let e = number-ends turn.before.before.before.args.text.now l.i l.v turn.loop-test.true
+    let e = number_ends turn.before.before.before.args.text.now l.i l.v turn.loop-test.true
     (sym c.before.is_digit.ensures ∙ not-true _ c.if1.true) in
-    let none = span-ends turn.before.before.before.args.text.now l.i l.v turn.loop-test.true
+    let none = span_ends turn.before.before.before.args.text.now l.i l.v turn.loop-test.true
     (sym c.before.is_digit.ensures ∙ not-true _ c.if1.true) in
     (omega (arith, e, l.invariant.0, l.invariant.1), omega (arith, none, l.invariant.2))
 
@@ -59,14 +59,14 @@ loop-again c =
     let text = turn.before.before.before.args.text.now in (
       omega (arith, c.with-digit.ensures),
       rw c.with-digit.ensures
-          (number-on text l.i l.v turn.loop-test.true (sym tested.is_digit.ensures ∙ not-false _ c.before.before.if1.false) ∙ l.invariant.1),
-      omega (arith, l.invariant.2, span-on text l.i l.v turn.loop-test.true (sym tested.is_digit.ensures ∙ not-false _ c.before.before.if1.false)),
+          (number_on text l.i l.v turn.loop-test.true (sym tested.is_digit.ensures ∙ not-false _ c.before.before.if1.false) ∙ l.invariant.1),
+      omega (arith, l.invariant.2, span_on text l.i l.v turn.loop-test.true (sym tested.is_digit.ensures ∙ not-false _ c.before.before.if1.false)),
     )
 
 returns-2 : tie.Need-returns-2 invariant-loop decreases-loop
 returns-2 c =
     let l = c.before.loop in
-    let e = text-ends c.before.before.before.args.text.now l.i l.v c.loop-test.false in
+    let e = text_ends c.before.before.before.args.text.now l.i l.v c.loop-test.false in
     let none = span_none c.before.before.before.args.text.now l.i l.v c.loop-test.false in
     (omega (arith, e, l.invariant.0, l.invariant.1), omega (arith, none, l.invariant.2))
 

@@ -3,7 +3,7 @@ use mathlib.Core.Path.{◌≡◌, sym, ◌∙◌, ap}
 use borrow.Author.Rules.{rules}
 use borrow.Author.Tests.{eq-eqb, ne_eqb, not-true, not-false}
 use Rattle.statement.specs.Decimal.{digit}
-use Rattle.numerals.specs.Numerals.{digitAt}
+use Rattle.numerals.specs.Numerals.{digit_at}
 use Rattle.numerals.proofs.starts.Statement.{statement}
 use Rattle.numerals.proofs.starts.Tie as tie
 
@@ -14,7 +14,7 @@ is-digit-requires : tie.Need-is-digit-requires
 is-digit-requires c κs = search rules
 
 -- what the first test says of the byte
-at_byte : (c : tie.After-is-digit) → digitAt c.before.before.before.args.text.now c.before.before.before.args.p ≡ c.is_digit.result
+at_byte : (c : tie.After-is-digit) → digit_at c.before.before.before.args.text.now c.before.before.before.args.p ≡ c.is_digit.result
 at_byte c = sym (c.is_digit.ensures ∙ ap digit c.before.byte_at.ensures)
 
 returns : tie.Need-returns

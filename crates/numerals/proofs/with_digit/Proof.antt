@@ -1,7 +1,7 @@
 -- `numerals::with_digit` meets its contract: a digit is from 48 to 57. Assumes nothing.
 use native.Mathlib.Omega.{arith}
 use borrow.Author.Rules.{rules}
-use Rattle.numerals.proofs.Laws.{digit-from}
+use Rattle.numerals.proofs.Laws.{digit_from}
 use Rattle.numerals.proofs.with_digit.Statement.{statement}
 use Rattle.numerals.proofs.with_digit.Tie as tie
 
@@ -9,7 +9,7 @@ mul-grown : tie.Need-overflow-mul-grown
 mul-grown c = search rules
 
 sub-grown : tie.Need-overflow-sub-grown
-sub-grown c = omega (arith, digit-from c.args.b c.requires.0)
+sub-grown c = omega (arith, digit_from c.args.b c.requires.0)
 
 cast-grown : tie.Need-overflow-cast-grown
 cast-grown c = search rules

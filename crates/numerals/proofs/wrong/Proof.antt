@@ -4,8 +4,8 @@ use mathlib.Core.Path.{◌≡◌, refl}
 use mathlib.Core.Bool.{Bool, not, ◌&&◌}
 use borrow.Author.Rules.{rules}
 use lib.Dec.{ltb}
-use Rattle.numerals.specs.Numerals.{space, numberAt, numberLimit, wrongAt}
-use Rattle.numerals.proofs.Laws.{tooLarge, wrong_byte, wrong-number}
+use Rattle.numerals.specs.Numerals.{space, number_at, number_limit, wrong_at}
+use Rattle.numerals.proofs.Laws.{too_large, wrong_byte, wrong_number}
 use Rattle.numerals.proofs.wrong.Statement.{statement}
 use Rattle.numerals.proofs.wrong.Tie as tie
 
@@ -20,17 +20,17 @@ is-space-requires c κs = search rules
 
 -- what the answers of the calls say
 byte-is : (c : tie.After-is-digit) (s : Bool) → s ≡ space c.before.byte_at.result
-    → let a = c.before.before.before.before.args in wrongAt a.fault a.text.now a.p ≡ not c.is_digit.result && not s
+    → let a = c.before.before.before.before.args in wrong_at a.fault a.text.now a.p ≡ not c.is_digit.result && not s
 byte-is c s e =
     let a = c.before.before.before.before.args in
     wrong_byte a.fault a.p a.text.now c.before.byte_at.result c.is_digit.result s
     c.before.before.if1.true c.before.byte_at.ensures c.is_digit.ensures e
 
 number_is : (c : tie.After-starts) (v : ℕ) → let a = c.before.before.before.args in
-    v ≡ min (numberAt a.text.now a.p) tooLarge → wrongAt a.fault a.text.now a.p ≡ c.starts.result && ltb numberLimit v
+    v ≡ min (number_at a.text.now a.p) too_large → wrong_at a.fault a.text.now a.p ≡ c.starts.result && ltb number_limit v
 number_is c v e =
     let a = c.before.before.before.args in
-    wrong-number a.fault a.p a.text.now c.starts.result v c.before.if1.false c.starts.ensures e
+    wrong_number a.fault a.p a.text.now c.starts.result v c.before.if1.false c.starts.ensures e
 
 returns : tie.Need-returns
 returns c = rw (byte-is c.before.before c.is-space.result c.is-space.ensures, c.before.if2.true)

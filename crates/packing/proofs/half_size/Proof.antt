@@ -1,7 +1,7 @@
 -- `packing::half_size` is safe. Assumes nothing.
 use native.Mathlib.Omega.{arith}
 use borrow.Author.Rules.{rules}
-use Rattle.typed.proofs.Entries.{rows-small}
+use Rattle.typed.proofs.Entries.{rows_small}
 use Rattle.packing.proofs.half_size.Statement.{statement}
 use Rattle.packing.proofs.half_size.Tie as tie
 
@@ -15,7 +15,7 @@ sub-result : tie.Need-overflow-sub-result
 sub-result c = search rules
 
 mul-result : tie.Need-overflow-mul-result
-mul-result c = omega (arith, rows-small c.before.before.args.n c.before.if1.false)
+mul-result c = omega (arith, rows_small c.before.before.args.n c.before.if1.false)
 
 returns-3 : tie.Need-returns-3
 returns-3 c = search rules

@@ -4,13 +4,13 @@ use native.Mathlib.Omega.{arith}
 use mathlib.Core.Path.{sym}
 use borrow.Author.Rules.{rules}
 use lib.Seq.{length-take-le}
-use Rattle.typed.proofs.Texts.{matrix-taken}
-use Rattle.typed.proofs.Entries.{square-small}
+use Rattle.typed.proofs.Texts.{matrix_taken}
+use Rattle.typed.proofs.Entries.{square_small}
 use Rattle.packing.proofs.pack.Statement.{statement}
 use Rattle.packing.proofs.pack.Tie as tie
 
 few : (c : tie.Start) → c.args.n * c.args.n ≤ 4096
-few c = square-small c.args.n (matrix-taken c.args.text.now c.args.n c.requires).few
+few c = square_small c.args.n (matrix_taken c.args.text.now c.args.n c.requires).few
 
 large-buffer-requires : tie.Need-large-buffer-requires
 large-buffer-requires c κs = search rules

@@ -3,9 +3,9 @@ use native.Mathlib.Omega.{arith}
 use mathlib.Core.Path.{refl, sym, ◌∙◌, ap}
 use mathlib.Core.List.{List}
 use Prim.Native.Nat.{ℕ}
-use Rattle.statement.specs.Calls.{writeRecord, recordWritten}
+use Rattle.statement.specs.Calls.{write_record, record_written}
 use Rattle.typed.specs.declared.Typed.TheVariants.{Matrix}
-use Rattle.typed.proofs.Texts.{matrix-taken}
+use Rattle.typed.proofs.Texts.{matrix_taken}
 use Rattle.typed.proofs.Body.{written}
 use borrow.Author.Rules.{rules}
 use Rattle.packing.proofs.write_typed.Statement.{statement}
@@ -30,10 +30,10 @@ returns c =
     let s = body_call.before.before.before.before.before in
     let text = s.args.text.now in
     let n = s.args.n in
-    let some = (matrix-taken text n s.requires.0).two in
+    let some = (matrix_taken text n s.requires.0).two in
     let e = body_call.write-body.ensures.1 ∙ sym (written text (Matrix n) n s.requires.0 refl s.args.body.now (λ z. omega arith) s.requires.1).1 in (
-      record-call.write-record.ensures.0 ∙ ap (λ (b : List ℕ). writeRecord 1 n b s.args.out.now) e,
-      record-call.write-record.ensures.1 ∙ ap (λ (b : List ℕ). recordWritten 1 n b s.args.out.now) e,
+      record-call.write-record.ensures.0 ∙ ap (λ (b : List ℕ). write_record 1 n b s.args.out.now) e,
+      record-call.write-record.ensures.1 ∙ ap (λ (b : List ℕ). record_written 1 n b s.args.out.now) e,
     )
 
 pub write-typed-spec : {M : Type 1} → statement M

@@ -1,22 +1,22 @@
 -- `parents::pass_below` meets its contract: the rows passed are pushed. Assumes nothing.
 use Prim.Native.Nat.{◌-◌, ◌<◌}
 use native.Mathlib.Omega.{arith}
-use Rattle.statement.specs.Rows.{listIn}
+use Rattle.statement.specs.Rows.{list_in}
 use Rattle.parents.specs.Merging.{Passed}
-use Rattle.parents.proofs.Laws.{given-roomy, passed_none, passed-room, passed-turn}
+use Rattle.parents.proofs.Laws.{given_roomy, passed_none, passed_room, passed_turn}
 use borrow.Author.Rules.{rules}
 use Rattle.parents.proofs.pass_below.Statement.{statement}
 use Rattle.parents.proofs.pass_below.Tie as tie
 
 abbrev invariant-loop : tie.invariant-loop
 invariant-loop olds cs ws c clusters₀ weights₀ at₀ rows₀ clusters weights at rows =
-    Passed (listIn 0 olds cs ws) (listIn 0 rows₀ clusters₀ weights₀) (listIn 0 rows clusters weights) c at₀ at
+    Passed (list_in 0 olds cs ws) (list_in 0 rows₀ clusters₀ weights₀) (list_in 0 rows clusters weights) c at₀ at
 
 abbrev decreases-loop : tie.decreases-loop
 decreases-loop olds cs ws c clusters₀ weights₀ at₀ rows₀ clusters weights at rows = olds - at
 
 loop-holds : tie.Need-loop-init invariant-loop decreases-loop
-loop-holds c = let a = c.args in passed_none (listIn 0 a.olds a.cs.now a.ws.now) _ a.c _ c.requires.1
+loop-holds c = let a = c.args in passed_none (list_in 0 a.olds a.cs.now a.ws.now) _ a.c _ c.requires.1
 
 mul-if1 : tie.Need-overflow-mul-if1 invariant-loop decreases-loop
 mul-if1 c = search rules
@@ -39,8 +39,8 @@ room c =
     let l = c.before.loop in
     let s = c.before.before in
     let a = s.args in
-    passed-room (listIn 0 a.olds a.cs.now a.ws.now) _ a.c _ (listIn 0 l.rows l.clusters l.weights) l.at
-    (given-roomy 0 a.olds a.cs.now a.ws.now s.requires.0) l.invariant c.loop-test.true s.requires.2
+    passed_room (list_in 0 a.olds a.cs.now a.ws.now) _ a.c _ (list_in 0 l.rows l.clusters l.weights) l.at
+    (given_roomy 0 a.olds a.cs.now a.ws.now s.requires.0) l.invariant c.loop-test.true s.requires.2
 
 mul-clusters-2 : tie.Need-overflow-mul-clusters-2 invariant-loop decreases-loop
 mul-clusters-2 c = omega (arith, room c.before.before.before)
@@ -76,8 +76,8 @@ loop-again c =
     let l = t.before.loop in
     let s = t.before.before in
     let a = s.args in
-    passed-turn (listIn 0 a.olds a.cs.now a.ws.now) _ a.c _ (listIn 0 l.rows l.clusters l.weights) l.at
-    (given-roomy 0 a.olds a.cs.now a.ws.now s.requires.0) l.invariant t.loop-test.true e.if1.false
+    passed_turn (list_in 0 a.olds a.cs.now a.ws.now) _ a.c _ (list_in 0 l.rows l.clusters l.weights) l.at
+    (given_roomy 0 a.olds a.cs.now a.ws.now s.requires.0) l.invariant t.loop-test.true e.if1.false
 
 returns-2 : tie.Need-returns-2 invariant-loop decreases-loop
 returns-2 c = (c.before.loop.invariant, λ l. absurd (omega (arith, c.loop-test.false)))

@@ -2,16 +2,16 @@
 use Prim.Native.Nat.{◌-◌, ◌<◌}
 use mathlib.Core.Path.{◌≡◌}
 use lib.ListN.{length}
-use Rattle.statement.specs.Rows.{listIn}
+use Rattle.statement.specs.Rows.{list_in}
 use Rattle.splits_list.proofs.Laws.{Roomy}
-use Rattle.parents.proofs.Laws.{Copying, copying-from, copying-room, copying-turn, copying-end}
+use Rattle.parents.proofs.Laws.{Copying, copying_from, copying_room, copying_turn, copying_end}
 use borrow.Author.Rules.{rules}
 use Rattle.parents.proofs.push_rest.Statement.{statement}
 use Rattle.parents.proofs.push_rest.Tie as tie
 
 abbrev invariant-loop : tie.invariant-loop
 invariant-loop from rows clusters₀ weights₀ old count₀ i₀ olds clusters weights count i =
-    Copying old (listIn old.taxa rows clusters₀ weights₀) (listIn old.taxa count clusters weights) from i
+    Copying old (list_in old.taxa rows clusters₀ weights₀) (list_in old.taxa count clusters weights) from i
 
 abbrev decreases-loop : tie.decreases-loop
 decreases-loop from rows clusters₀ weights₀ old count₀ i₀ olds clusters weights count i = olds - i
@@ -25,7 +25,7 @@ roomy c =
 loop-holds : tie.Need-loop-init invariant-loop decreases-loop
 loop-holds c =
     let a = c.args in
-    copying-from a.t1 (listIn a.t1.taxa a.rows a.clusters.now a.weights.now) a.from c.requires.1 c.requires.2
+    copying_from a.t1 (list_in a.t1.taxa a.rows a.clusters.now a.weights.now) a.from c.requires.1 c.requires.2
 
 -- there is room for the row
 room : (c : tie.In-loop invariant-loop decreases-loop) → c.before.loop.count < 125
@@ -33,8 +33,8 @@ room c =
     let s = c.before.before in
     let a = s.args in
     let l = c.before.loop in
-    copying-room a.t1 (listIn a.t1.taxa a.rows a.clusters.now a.weights.now) a.from
-    (listIn a.t1.taxa l.count l.clusters l.weights) l.i (roomy s) l.invariant c.loop-test.true
+    copying_room a.t1 (list_in a.t1.taxa a.rows a.clusters.now a.weights.now) a.from
+    (list_in a.t1.taxa l.count l.clusters l.weights) l.i (roomy s) l.invariant c.loop-test.true
 
 mul-clusters : tie.Need-overflow-mul-clusters invariant-loop decreases-loop
 mul-clusters c = search rules
@@ -75,16 +75,16 @@ loop-again c =
     let s = t.before.before in
     let a = s.args in
     let l = t.before.loop in
-    copying-turn a.t1 (listIn a.t1.taxa a.rows a.clusters.now a.weights.now) a.from
-    (listIn a.t1.taxa l.count l.clusters l.weights) l.i (roomy s) l.invariant t.loop-test.true
+    copying_turn a.t1 (list_in a.t1.taxa a.rows a.clusters.now a.weights.now) a.from
+    (list_in a.t1.taxa l.count l.clusters l.weights) l.i (roomy s) l.invariant t.loop-test.true
 
 returns : tie.Need-returns invariant-loop decreases-loop
 returns c =
     let s = c.before.before in
     let a = s.args in
     let l = c.before.loop in
-    copying-end a.t1 (listIn a.t1.taxa a.rows a.clusters.now a.weights.now) a.from
-    (listIn a.t1.taxa l.count l.clusters l.weights) l.i (roomy s) l.invariant c.loop-test.false
+    copying_end a.t1 (list_in a.t1.taxa a.rows a.clusters.now a.weights.now) a.from
+    (list_in a.t1.taxa l.count l.clusters l.weights) l.i (roomy s) l.invariant c.loop-test.false
 
 pub push-rest-spec : {M : Type 1} → statement M
 push-rest-spec =

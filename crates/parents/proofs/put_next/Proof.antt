@@ -1,9 +1,9 @@
 -- `parents::put_next` meets its contract: the rows below c, then c, and the row of the same cluster left out. Assumes nothing.
 use Prim.Native.Nat.{◌<◌}
 use native.Mathlib.Omega.{arith}
-use Rattle.statement.specs.Rows.{row, listIn, rows_of}
+use Rattle.statement.specs.Rows.{row, list_in, rows_of}
 use lib.ListN.{drop}
-use Rattle.parents.proofs.Laws.{put-longer, given-roomy, put-here, put-room}
+use Rattle.parents.proofs.Laws.{put_longer, given_roomy, put_here, put_room}
 use Rattle.parents.proofs.put_next.Statement.{statement}
 use Rattle.parents.proofs.put_next.Tie as tie
 
@@ -11,14 +11,14 @@ pass-below-requires : tie.Need-pass-below-requires
 pass-below-requires c κs =
     let s = c.before.before in
     let a = s.args in
-    (s.requires.0, s.requires.1, omega (arith, s.requires.2, put-longer (row a.c a.w) (drop a.m.at (rows_of (listIn 0 a.olds a.cs.now a.ws.now)))))
+    (s.requires.0, s.requires.1, omega (arith, s.requires.2, put_longer (row a.c a.w) (drop a.m.at (rows_of (list_in 0 a.olds a.cs.now a.ws.now)))))
 
 -- there is room for the row
 room : (c : tie.After-pass-below) → c.pass_below.result.rows < 125
 room c =
     let s = c.before.before.before in
     let a = s.args in
-    put-room (listIn 0 a.olds a.cs.now a.ws.now) _ _ a.c a.w _ _ c.pass_below.ensures.0 s.requires.2
+    put_room (list_in 0 a.olds a.cs.now a.ws.now) _ _ a.c a.w _ _ c.pass_below.ensures.0 s.requires.2
 
 mul-clusters : tie.Need-overflow-mul-clusters
 mul-clusters c = omega (arith, room c)
@@ -43,7 +43,7 @@ returns c =
     let p = c.before in
     let s = p.before.before.before in
     let a = s.args in
-    put-here (listIn 0 a.olds a.cs.now a.ws.now) _ _ a.c a.w _ _ _ (given-roomy 0 a.olds a.cs.now a.ws.now s.requires.0)
+    put_here (list_in 0 a.olds a.cs.now a.ws.now) _ _ a.c a.w _ _ _ (given_roomy 0 a.olds a.cs.now a.ws.now s.requires.0)
     p.pass_below.ensures.0 p.pass_below.ensures.1 c.past.ensures
 
 pub put-next-spec : {M : Type 1} → statement M

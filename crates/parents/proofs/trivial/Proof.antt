@@ -4,7 +4,7 @@ use native.Mathlib.Omega.{arith}
 use mathlib.Core.Path.{sym, ◌∙◌, ap}
 use lib.Pow.{pow_mono}
 use borrow.Author.Rules.{rules}
-use Rattle.parents.proofs.Laws.{trivial-low, trivial-top}
+use Rattle.parents.proofs.Laws.{trivial_low, trivial_top}
 use Rattle.parents.proofs.trivial.Statement.{statement}
 use Rattle.parents.proofs.trivial.Tie as tie
 
@@ -17,7 +17,7 @@ sub-result c = let s = c.before.before in omega (arith, c.single.ensures, pow_mo
 returns : tie.Need-returns
 returns c =
     let a = c.before.before.args in
-    ap (λ (b : ℕ). b - 2) c.single.ensures ∙ sym (trivial-top a.k a.i c.before.if1.true)
+    ap (λ (b : ℕ). b - 2) c.single.ensures ∙ sym (trivial_top a.k a.i c.before.if1.true)
 
 single-requires-2 : tie.Need-single-requires-2
 single-requires-2 c κs = search rules
@@ -26,7 +26,7 @@ returns-2 : tie.Need-returns-2
 returns-2 c =
     let s = c.before.before in
     let a = s.args in
-    c.single2.ensures ∙ sym (trivial-low a.k a.i (omega (arith, s.requires.2, c.before.if1.false)))
+    c.single2.ensures ∙ sym (trivial_low a.k a.i (omega (arith, s.requires.2, c.before.if1.false)))
 
 pub trivial-spec : {M : Type 1} → statement M
 trivial-spec = tie.close (tie.spec single-requires sub-result returns single-requires-2 returns-2)

@@ -4,15 +4,15 @@ use native.Mathlib.Omega.{arith}
 use mathlib.Core.Path.{◌≡◌}
 use lib.ListN.{length}
 use borrow.Author.Rules.{rules}
-use Rattle.statement.specs.Rows.{listIn}
+use Rattle.statement.specs.Rows.{list_in}
 use Rattle.parents.specs.Merging.{Given}
-use Rattle.parents.proofs.Laws.{Merging, merging-from, merging-room, merging-turn, columns, columns-room, last-room, last-is, blank, none_filled}
+use Rattle.parents.proofs.Laws.{Merging, merging_from, merging_room, merging_turn, columns, columns_room, last_room, last_is, blank, none_filled}
 use Rattle.parents.proofs.with_trivial.Statement.{statement}
 use Rattle.parents.proofs.with_trivial.Tie as tie
 
 abbrev invariant-loop : tie.invariant-loop
 invariant-loop s most k olds cs ws clusters₀ weights₀ m₀ i₀ clusters weights m i =
-    Merging most s.taxa (columns s) (listIn 0 m.rows clusters weights) m.at i
+    Merging most s.taxa (columns s) (list_in 0 m.rows clusters weights) m.at i
 
 abbrev decreases-loop : tie.decreases-loop
 decreases-loop s most k olds cs ws clusters₀ weights₀ m₀ i₀ clusters weights m i = k + 1 - i
@@ -34,7 +34,7 @@ loop-holds c =
     let left = c.before.before.before in
     let s = left.before in
     let a = s.args in
-    merging-from a.most a.s.taxa left.if1.false _ (columns-room a.most a.s s.requires.1) _ _ (blank 0) c.first.ensures
+    merging_from a.most a.s.taxa left.if1.false _ (columns_room a.most a.s s.requires.1) _ _ (blank 0) c.first.ensures
 
 trivial-requires : tie.Need-trivial-requires invariant-loop decreases-loop
 trivial-requires c κs =
@@ -59,7 +59,7 @@ put-next-requires c κs =
     let a = s.args in (
       given s,
       m.invariant.low,
-      merging-room a.most a.s.taxa left.if1.false (columns a.s) (columns-room a.most a.s s.requires.1) _ m.m.at m.i m.invariant t.loop-test.true _
+      merging_room a.most a.s.taxa left.if1.false (columns a.s) (columns_room a.most a.s s.requires.1) _ m.m.at m.i m.invariant t.loop-test.true _
           b.trivial.ensures,
     )
 
@@ -78,7 +78,7 @@ loop-again c =
     let left = l.before.before.before.before in
     let s = left.before in
     let a = s.args in
-    merging-turn a.most a.s.taxa left.if1.false (columns a.s) (columns-room a.most a.s s.requires.1) _ m.m.at m.i m.invariant t.loop-test.true _
+    merging_turn a.most a.s.taxa left.if1.false (columns a.s) (columns_room a.most a.s s.requires.1) _ m.m.at m.i m.invariant t.loop-test.true _
     b.trivial.ensures _ _ c.put_next.ensures
 
 push-rest-requires : tie.Need-push-rest-requires invariant-loop decreases-loop
@@ -88,7 +88,7 @@ push-rest-requires c κs =
     let left = out.before.before.before.before.before in
     let s = left.before in
     let a = s.args in
-    (s.requires.0.1, m.invariant.low, last-room a.most a.s left.if1.false s.requires.1 _ m.m.at m.i m.invariant out.loop-test.false)
+    (s.requires.0.1, m.invariant.low, last_room a.most a.s left.if1.false s.requires.1 _ m.m.at m.i m.invariant out.loop-test.false)
 
 returns-2 : tie.Need-returns-2 invariant-loop decreases-loop
 returns-2 c =
@@ -97,7 +97,7 @@ returns-2 c =
     let left = out.before.before.before.before.before in
     let s = left.before in
     let a = s.args in
-    last-is a.most a.s left.if1.false s.requires.1 _ m.m.at m.i m.invariant out.loop-test.false _ c.push-rest.ensures
+    last_is a.most a.s left.if1.false s.requires.1 _ m.m.at m.i m.invariant out.loop-test.false _ c.push-rest.ensures
 
 pub with-trivial-spec : {M : Type 1} → statement M
 with-trivial-spec =

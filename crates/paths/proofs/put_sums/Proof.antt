@@ -6,17 +6,17 @@ use lib.ListN.{length, get_or, length-set}
 use lib.Seq.{get_or-set_same, get_or-set_other}
 use borrow.Author.Rules.{rules}
 use borrow.Author.Count.{below_none, below_more}
-use Rattle.statement.specs.Matrix.{weightLimit}
-use Rattle.statement.specs.Rows.{listIn, rows_of}
-use Rattle.splits_list.proofs.Whole.{whole-rows}
-use Rattle.paths.specs.RowSum.{rowSum}
-use Rattle.paths.proofs.Entries.{taxa-of, sums-filled}
+use Rattle.statement.specs.Matrix.{weight_limit}
+use Rattle.statement.specs.Rows.{list_in, rows_of}
+use Rattle.splits_list.proofs.Whole.{whole_rows}
+use Rattle.paths.specs.RowSum.{row_sum}
+use Rattle.paths.proofs.Entries.{taxa_of_law, sums_filled}
 use Rattle.paths.proofs.put_sums.Statement.{statement}
 use Rattle.paths.proofs.put_sums.Tie as tie
 
 abbrev invariant-loop : tie.invariant-loop
 invariant-loop n out₀ m cs ws e₀ out e =
-    (e ≤ n * n) × (length out ≡ length out₀) × ((d : ℕ) → d < e → get_or out d 0 ≡ rowSum (rows_of (listIn 0 m cs ws)) (d / n) (d % n))
+    (e ≤ n * n) × (length out ≡ length out₀) × ((d : ℕ) → d < e → get_or out d 0 ≡ row_sum (rows_of (list_in 0 m cs ws)) (d / n) (d % n))
 
 abbrev decreases-loop : tie.decreases-loop
 decreases-loop n out₀ m cs ws e₀ out e = n * n - e
@@ -41,7 +41,7 @@ row-sum-requires c κs =
     let list = s.requires.2 in
     let hc : length s.args.s.clusters ≡ 125 = search rules in
     let hw : length s.args.s.weights ≡ 125 = search rules in
-    let (i, j) = taxa-of s.args.n l.loop.e (omega arith) (omega arith) in
+    let (i, j) = taxa_of_law s.args.n l.loop.e (omega arith) (omega arith) in
     ((omega arith, omega arith, omega (arith, list.taxa, list.few), hc, hw), λ w m. (list.weigh w m).1)
 
 mul-out : tie.Need-overflow-mul-out invariant-loop decreases-loop
@@ -73,8 +73,8 @@ unfolding rows_of
 returns c =
     let l = c.before.loop in
     let s = c.before.before.before.before.before in
-    let clean = (whole-rows weightLimit s.args.n s.args.s s.requires.2 s.requires.3).clean in
-    sums-filled s.args.n (rows_of s.args.s) clean l.out (omega arith) (l.invariant.1 ∙ s.requires.4) (λ d h. l.invariant.2 d (omega arith))
+    let clean = (whole_rows weight_limit s.args.n s.args.s s.requires.2 s.requires.3).clean in
+    sums_filled s.args.n (rows_of s.args.s) clean l.out (omega arith) (l.invariant.1 ∙ s.requires.4) (λ d h. l.invariant.2 d (omega arith))
 
 pub put-sums-spec : {M : Type 1} → statement M
 put-sums-spec =

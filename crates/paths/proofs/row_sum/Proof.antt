@@ -5,24 +5,24 @@ use mathlib.Core.Path.{◌≡◌, ap}
 use lib.ListN.{drop}
 use borrow.Author.Rules.{rules}
 use Rattle.statement.specs.declared.Splits.{Splits}
-use Rattle.statement.specs.Rows.{listIn, rows_of}
-use Rattle.splits_list.proofs.Laws.{Roomy, rows-length}
-use Rattle.paths.specs.RowSum.{sumOver, parting, rowSum}
-use Rattle.paths.proofs.Sums.{sum-small}
+use Rattle.statement.specs.Rows.{list_in, rows_of}
+use Rattle.splits_list.proofs.Laws.{Roomy, rows_length}
+use Rattle.paths.specs.RowSum.{sum_over, parting, row_sum}
+use Rattle.paths.proofs.Sums.{sum_small}
 use Rattle.paths.proofs.ListRows.{next_row, no_row}
 use Rattle.paths.proofs.row_sum.Statement.{statement}
 use Rattle.paths.proofs.row_sum.Tie as tie
 
 abbrev invariant-loop : tie.invariant-loop
 invariant-loop m cs ws i j sum₀ k₀ sum k =
-    let rows = rows_of (listIn 0 m cs ws) in (k ≤ m) × (sum + sumOver (parting i j) (drop k rows) ≡ rowSum rows i j)
+    let rows = rows_of (list_in 0 m cs ws) in (k ≤ m) × (sum + sum_over (parting i j) (drop k rows) ≡ row_sum rows i j)
 
 abbrev decreases-loop : tie.decreases-loop
 decreases-loop m cs ws i j sum₀ k₀ sum k = m - k
 
 -- the list of the rows
 abbrev list : tie.Start invariant-loop decreases-loop → Splits
-list c = listIn 0 c.args.m c.args.cs.now c.args.ws.now
+list c = list_in 0 c.args.m c.args.cs.now c.args.ws.now
 
 room : (c : tie.Start invariant-loop decreases-loop) → Roomy (list c)
 room c = record { clusters = c.requires.0.3; weights = c.requires.0.4; rows = c.requires.0.2 }
@@ -47,7 +47,7 @@ parting-weight-requires c κs = search rules
 
 -- with one more row summed
 one_more : (c : tie.After-parting-weight invariant-loop decreases-loop) → let l = c.before.before.before.before in let a = l.before.args in
-    l.loop.sum + c.parting-weight.result + sumOver (parting a.i a.j) (drop (l.loop.k + 1) (rows_of (list l.before))) ≡ rowSum (rows_of (list l.before)) a.i a.j
+    l.loop.sum + c.parting-weight.result + sum_over (parting a.i a.j) (drop (l.loop.k + 1) (rows_of (list l.before))) ≡ row_sum (rows_of (list l.before)) a.i a.j
 one_more c =
     let l = c.before.before.before.before in
     let a = l.before.args in
@@ -56,8 +56,8 @@ one_more c =
 add-sum : tie.Need-overflow-add-sum invariant-loop decreases-loop
 add-sum c =
     let s = c.before.before.before.before.before in
-    let few = rows-length (list s) (room s) in
-    omega (arith, one_more c, sum-small (rows_of (list s)) s.args.i s.args.j (omega (arith, (room s).rows)) s.requires.1)
+    let few = rows_length (list s) (room s) in
+    omega (arith, one_more c, sum_small (rows_of (list s)) s.args.i s.args.j (omega (arith, (room s).rows)) s.requires.1)
 
 add-k : tie.Need-overflow-add-k invariant-loop decreases-loop
 add-k c = search rules
@@ -77,7 +77,7 @@ returns c =
       arith,
       l.loop.invariant.1,
       no_row (parting a.i a.j) (list l.before) (room l.before),
-      ap (λ (k : ℕ). sumOver (parting a.i a.j) (drop k (rows_of (list l.before)))) end,
+      ap (λ (k : ℕ). sum_over (parting a.i a.j) (drop k (rows_of (list l.before)))) end,
     )
 
 pub row-sum-spec : {M : Type 1} → statement M

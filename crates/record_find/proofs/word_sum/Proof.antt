@@ -1,12 +1,12 @@
 -- `record_find::word_sum` meets its contract: the sum so far and the words that remain add to the whole. Assumes nothing.
 use Rattle.std.proofs.Common.{◌≡◌, ◌+◌, ◌-◌, ◌%◌, ◌<◌, ◌≤◌, length, drop, arith, rules}
-use Rattle.statement.specs.Bytes.{wordTotal}
-use Rattle.record_find.proofs.Words.{total-step, total-end}
+use Rattle.statement.specs.Bytes.{word_total}
+use Rattle.record_find.proofs.Words.{total_step, total_end}
 use Rattle.record_find.proofs.word_sum.Statement.{statement}
 use Rattle.record_find.proofs.word_sum.Tie as tie
 
 abbrev invariant-loop : tie.invariant-loop
-invariant-loop bytes sum₀ i₀ sum i = (i ≤ length bytes) × (sum < 65536) × ((sum + wordTotal (drop i bytes)) % 65536 ≡ wordTotal bytes % 65536)
+invariant-loop bytes sum₀ i₀ sum i = (i ≤ length bytes) × (sum < 65536) × ((sum + word_total (drop i bytes)) % 65536 ≡ word_total bytes % 65536)
 
 abbrev decreases-loop : tie.decreases-loop
 decreases-loop bytes sum₀ i₀ sum i = length bytes - i
@@ -41,10 +41,10 @@ loop-less c = search rules
 loop-again : tie.Need-loop-preserved invariant-loop decreases-loop
 loop-again c =
     let at = c.before.before.before.before.before in
-    omega (arith, total-step at.before.before.args.bytes.now at.loop.i (search rules), c.plus.ensures, c.before.word.ensures)
+    omega (arith, total_step at.before.before.args.bytes.now at.loop.i (search rules), c.plus.ensures, c.before.word.ensures)
 
 returns : tie.Need-returns invariant-loop decreases-loop
-returns c = omega (arith, total-end c.before.before.before.args.bytes.now c.before.loop.i (search rules))
+returns c = omega (arith, total_end c.before.before.before.args.bytes.now c.before.loop.i (search rules))
 
 pub word-sum-spec : {M : Type 1} → statement M
 word-sum-spec =

@@ -1,7 +1,7 @@
 -- `record_write::check_matrix` meets its contract: 1, 2, then the entries' own checks. Assumes nothing.
 use Rattle.std.proofs.Common.{◌≡◌, ◌≤◌, length, sym, ◌∙◌, ⊎_elim, mul-le-mul, arith, length-take-le, rules, ltb-false, ltb-true}
-use Rattle.statement.proofs.Accepted.{too_few, too_many, wrong-length}
-use Rattle.record_write.proofs.Entries.{matrix-said}
+use Rattle.statement.proofs.Accepted.{too_few, too_many, wrong_length}
+use Rattle.record_write.proofs.Entries.{matrix_said}
 use Rattle.record_write.proofs.check_matrix.Statement.{statement}
 use Rattle.record_write.proofs.check_matrix.Tie as tie
 
@@ -19,7 +19,7 @@ mul-if3 : tie.Need-overflow-mul-if3
 mul-if3 c = omega (arith, mul-le-mul (few c) (few c))
 
 returns-2 : tie.Need-returns-2
-returns-2 c = sym (wrong-length _ _ c.before.before.if1.false (few c.before) _ _ c.if3.true)
+returns-2 c = sym (wrong_length _ _ c.before.before.if1.false (few c.before) _ _ c.if3.true)
 
 words-of-requires : tie.Need-words-of-requires
 words-of-requires c κs = (mul-le-mul (few c.before) (few c.before), c.if3.false)
@@ -41,7 +41,7 @@ returns-3 c =
     let worded = c.before.before in
     let sized = worded.before in
     let checked = sized.before in
-    c.check.ensures ∙ matrix-said _ _ _ checked.before.if1.false (few checked) sized.if3.false worded.words_of.ensures
+    c.check.ensures ∙ matrix_said _ _ _ checked.before.if1.false (few checked) sized.if3.false worded.words_of.ensures
 
 pub check-matrix-spec : {M : Type 1} → statement M
 check-matrix-spec =

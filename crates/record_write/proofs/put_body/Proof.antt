@@ -1,7 +1,7 @@
 -- `record_write::put_body` meets its contract, a byte at a time. Assumes nothing.
 use Rattle.std.proofs.Common.{◌≡◌, ◌-◌, ◌≤◌, length, refl, ap, ◌∙◌, arith, length-set, rules}
 use lib.Seq.{paste, paste-zero}
-use Rattle.record_write.proofs.Stores.{put-more}
+use Rattle.record_write.proofs.Stores.{put_more}
 use Rattle.record_write.proofs.put_body.Statement.{statement}
 use Rattle.record_write.proofs.put_body.Tie as tie
 
@@ -35,7 +35,7 @@ loop-again c =
     let a = at.before.args in (
       omega arith,
       simp length-set at.loop.invariant.1,
-      put-more a.out.now a.body.now at.loop.out at.loop.i (omega arith) (omega arith) at.loop.invariant.2,
+      put_more a.out.now a.body.now at.loop.out at.loop.i (omega arith) (omega arith) at.loop.invariant.2,
     )
 
 same_length : tie.Need-same-length invariant-loop decreases-loop

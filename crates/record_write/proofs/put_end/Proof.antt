@@ -1,6 +1,6 @@
 -- `record_write::put_end` meets its contract: the pad, where there is one, then the sum word. Assumes nothing.
 use Rattle.std.proofs.Common.{sym, ⊎_elim, arith, length-set, length-take-le, rules}
-use Rattle.record_write.proofs.Stores.{Padded, padded-even, padded-odd, summed-put}
+use Rattle.record_write.proofs.Stores.{Padded, padded_even, padded_odd, summed_put}
 use Rattle.record_write.proofs.put_end.Statement.{statement}
 use Rattle.record_write.proofs.put_end.Tie as tie
 
@@ -8,7 +8,7 @@ use Rattle.record_write.proofs.put_end.Tie as tie
 padded : (c : tie.Joined1) → let a = c.before.before.args in Padded a.out.now a.len c.if1.out
 padded c =
     let s = c.before.before in
-    ⊎_elim (λ w. padded-odd _ _ s.requires _ w.0.taken w.1) (λ w. padded-even _ _ s.requires _ w.0.left w.1) c.if1.branch
+    ⊎_elim (λ w. padded_odd _ _ s.requires _ w.0.taken w.1) (λ w. padded_even _ _ s.requires _ w.0.left w.1) c.if1.branch
 
 add-out : tie.Need-overflow-add-out
 add-out c = search rules
@@ -53,7 +53,7 @@ same_length : tie.Need-same-length
 same_length c = simp length-set (omega (arith, (padded c.before.before.before).size))
 
 returns : tie.Need-returns
-returns c = summed-put _ _ _ _ _ (padded c.before.before.before) c.before.word_sum.ensures c.wrapping-sub-u16.ensures (omega arith)
+returns c = summed_put _ _ _ _ _ (padded c.before.before.before) c.before.word_sum.ensures c.wrapping-sub-u16.ensures (omega arith)
 
 pub put-end-spec : {M : Type 1} → statement M
 put-end-spec =

@@ -1,6 +1,6 @@
 -- `record_write::put_header` meets its contract. Assumes nothing.
 use Rattle.std.proofs.Common.{arith, length-set, rules}
-use Rattle.record_write.proofs.Stores.{header-put}
+use Rattle.record_write.proofs.Stores.{header_put}
 use Rattle.record_write.proofs.put_header.Statement.{statement}
 use Rattle.record_write.proofs.put_header.Tie as tie
 
@@ -44,7 +44,7 @@ same_length : tie.Need-same-length
 same_length c = search rules
 
 returns : tie.Need-returns
-returns c = header-put c.args.out.now _ _ _ (omega arith)
+returns c = header_put c.args.out.now _ _ _ (omega arith)
 
 pub put-header-spec : {M : Type 1} → statement M
 put-header-spec =

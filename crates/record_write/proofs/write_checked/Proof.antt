@@ -1,7 +1,7 @@
 -- `record_write::write_checked` meets its contract: refused by the input, refused for the slice, or written. Assumes nothing.
 use Rattle.std.proofs.Common.{◌≡◌, ◌≤◌, sym, ◌∙◌, arith, rules}
 use Rattle.statement.specs.Refusals.{number_of}
-use Rattle.record_write.proofs.Replies.{input-refused, few, output-refused, wrote}
+use Rattle.record_write.proofs.Replies.{input_refused, few, output_refused, wrote}
 use Rattle.record_write.proofs.write_checked.Statement.{statement}
 use Rattle.record_write.proofs.write_checked.Tie as tie
 
@@ -22,7 +22,7 @@ number-of-requires c κs = search rules
 returns : tie.Need-returns
 returns c =
     let s = start c.before in
-    input-refused s.args.kind s.args.n s.args.body.now s.args.out.now s.args.said s.pre (λ e. c.if1.true (c.before.number_of_lem.ensures ∙ e))
+    input_refused s.args.kind s.args.n s.args.body.now s.args.out.now s.args.said s.pre (λ e. c.if1.true (c.before.number_of_lem.ensures ∙ e))
 
 record-length-requires : tie.Need-record-length-requires
 record-length-requires c κs = search rules
@@ -30,7 +30,7 @@ record-length-requires c κs = search rules
 returns-2 : tie.Need-returns-2
 returns-2 c =
     let s = start c.before.before.before in
-    output-refused s.args.kind s.args.n s.args.body.now s.args.out.now s.args.said s.pre (passed c.before.before)
+    output_refused s.args.kind s.args.n s.args.body.now s.args.out.now s.args.said s.pre (passed c.before.before)
     (λ e. c.if2.true (e ∙ sym c.before.record-length.ensures))
 
 cast-lay-out : tie.Need-overflow-cast-lay-out

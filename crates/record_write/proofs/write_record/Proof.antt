@@ -1,7 +1,7 @@
 -- `record_write::write_record` meets its contract, by the kind. Assumes nothing.
 use Rattle.std.proofs.Common.{refl, ap, ◌∙◌, rules}
 use Rattle.statement.specs.declared.Reading.{Reading}
-use Rattle.record_write.proofs.Replies.{said_of, read-said, unknown}
+use Rattle.record_write.proofs.Replies.{said_of, read_said, unknown}
 use Rattle.record_write.proofs.write_record.Statement.{statement}
 use Rattle.record_write.proofs.write_record.Tie as tie
 
@@ -35,7 +35,7 @@ read-tree-requires c κs = search rules
 write-checked-requires-3 : tie.Need-write-checked-requires-3
 write-checked-requires-3 c κs =
     let asked = c.before in
-    said_of _ 3 _ _ _ asked.before.if3.true refl (ap (λ (r : Reading). r.outcome) asked.read-tree.ensures ∙ read-said _ _)
+    said_of _ 3 _ _ _ asked.before.if3.true refl (ap (λ (r : Reading). r.outcome) asked.read-tree.ensures ∙ read_said _ _)
 
 same-length-3 : tie.Need-same-length-3
 same-length-3 c = search rules

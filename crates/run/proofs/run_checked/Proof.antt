@@ -3,7 +3,7 @@ use mathlib.Core.Path.{◌≡◌, sym, ◌∙◌}
 use borrow.Author.Rules.{rules}
 use borrow.Author.Tests.{not-true, not-false}
 use Rattle.statement.specs.declared.Outcome.TheVariants.{Done}
-use Rattle.run.proofs.Laws.{done-is, not_done, run-refused, start-well, run-whole}
+use Rattle.run.proofs.Laws.{done_is, not_done, run_refused, start_well, run_whole}
 use Rattle.run.proofs.run_checked.Statement.{statement}
 use Rattle.run.proofs.run_checked.Tie as tie
 
@@ -17,7 +17,7 @@ returns : tie.Need-returns
 returns c =
     let s = c.before.before.before.before.before in
     let a = s.args in
-    run-refused a.kind a.n a.entries.now a.bytes.now a.said s.requires _ c.empty.ensures
+    run_refused a.kind a.n a.entries.now a.bytes.now a.said s.requires _ c.empty.ensures
     (not_done a.said (sym c.before.before.is-done.ensures ∙ not-true _ c.before.if1.true))
 
 empty-requires-2 : tie.Need-empty-requires-2
@@ -25,20 +25,20 @@ empty-requires-2 c κs = search rules
 
 -- past the source's checks
 done : (c : tie.Else1) → c.before.before.before.before.args.said ≡ Done
-done c = done-is _ (sym c.before.is-done.ensures ∙ not-false _ c.if1.false)
+done c = done_is _ (sym c.before.is-done.ensures ∙ not-false _ c.if1.false)
 
 grow-taxa-requires : tie.Need-grow-taxa-requires
 grow-taxa-requires c κs =
     let s = c.before.before.before.before.before in
     let a = s.args in
-    (s.requires.accepted (done c.before), start-well a.kind a.n a.entries.now a.bytes.now a.said s.requires (done c.before) _ c.empty2.ensures)
+    (s.requires.accepted (done c.before), start_well a.kind a.n a.entries.now a.bytes.now a.said s.requires (done c.before) _ c.empty2.ensures)
 
 returns-2 : tie.Need-returns-2
 returns-2 c =
     let s = c.before.before.before.before.before.before in
     let a = s.args in
     c.grow-taxa.ensures
-    ∙ run-whole a.kind a.n a.entries.now a.bytes.now a.said s.requires (done c.before.before) _ c.before.empty2.ensures
+    ∙ run_whole a.kind a.n a.entries.now a.bytes.now a.said s.requires (done c.before.before) _ c.before.empty2.ensures
 
 pub run-checked-spec : {M : Type 1} → statement M
 run-checked-spec = tie.close (tie.spec is-done-requires empty-requires returns empty-requires-2 grow-taxa-requires returns-2)

@@ -1,7 +1,7 @@
 -- `run::run_table` meets its contract. Assumes nothing.
 use mathlib.Core.Path.{◌∙◌}
 use borrow.Author.Rules.{rules}
-use Rattle.run.proofs.Laws.{checked-table, run-table-is}
+use Rattle.run.proofs.Laws.{checked_table, run_table_is}
 use Rattle.run.proofs.run_table.Statement.{statement}
 use Rattle.run.proofs.run_table.Tie as tie
 
@@ -12,10 +12,10 @@ slice-aggregate-run-checked : tie.Need-slice-aggregate-run-checked
 slice-aggregate-run-checked c = search rules
 
 run-checked-requires : tie.Need-run-checked-requires
-run-checked-requires c κs = checked-table _ _ _ _ c.before.check.ensures
+run-checked-requires c κs = checked_table _ _ _ _ c.before.check.ensures
 
 returns : tie.Need-returns
-returns c = c.run-checked.ensures ∙ run-table-is _ _ _ _ c.before.before.check.ensures
+returns c = c.run-checked.ensures ∙ run_table_is _ _ _ _ c.before.before.check.ensures
 
 pub run-table-spec : {M : Type 1} → statement M
 run-table-spec = tie.close (tie.spec check-requires slice-aggregate-run-checked run-checked-requires returns)

@@ -2,7 +2,7 @@
 use mathlib.Core.Path.{sym, ◌∙◌, ap}
 use borrow.Author.Rules.{rules}
 use Rattle.statement.specs.Refusals.{number_of}
-use Rattle.record_find.proofs.Found.{found-exactly, found-by-number}
+use Rattle.record_find.proofs.Found.{found_exactly, found_by_number}
 use Rattle.showing.proofs.describe.Statement.{statement}
 use Rattle.showing.proofs.describe.Tie as tie
 
@@ -26,8 +26,8 @@ returns c = search rules
 
 found-requires : tie.Need-found-requires
 found-requires c κs =
-    ((found-exactly _).0
-    (found-by-number _ (sym (ap number_of c.before.before.find-record.ensures) ∙ sym c.before.number_of_lem.ensures ∙ c.if1.false))).header
+    ((found_exactly _).0
+    (found_by_number _ (sym (ap number_of c.before.before.find-record.ensures) ∙ sym c.before.number_of_lem.ensures ∙ c.if1.false))).header
 
 returns-2 : tie.Need-returns-2
 returns-2 c = search rules

@@ -1,5 +1,5 @@
 -- The reply is the finding's.
-use Rattle.splitbox.proofs.Places.{finding-fits}
+use Rattle.splitbox.proofs.Places.{finding_fits}
 use borrow.Author.Rules.{rules}
 use Rattle.splitbox.proofs.splitbox_find_record.Statement.{statement}
 use Rattle.splitbox.proofs.splitbox_find_record.Tie as tie
@@ -8,7 +8,7 @@ find-record-requires : tie.Need-find-record-requires
 find-record-requires c κs = search rules
 
 reply-requires : tie.Need-reply-requires
-reply-requires c κs = rw c.find-record.ensures (finding-fits _)
+reply-requires c κs = rw c.find-record.ensures (finding_fits _)
 
 returns : tie.Need-returns
 returns c = rw c.before.find-record.ensures at c.reply.ensures

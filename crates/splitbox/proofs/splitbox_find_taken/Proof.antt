@@ -1,6 +1,6 @@
 -- The reply is that of the finding with the kinds taken.
-use Rattle.splitbox.proofs.Places.{taken-fits}
-use Rattle.record_find.specs.Taken.{kindsTaken}
+use Rattle.splitbox.proofs.Places.{taken_fits}
+use Rattle.record_find.specs.Taken.{kinds_taken}
 use borrow.Author.Rules.{rules}
 use Rattle.splitbox.proofs.splitbox_find_taken.Statement.{statement}
 use Rattle.splitbox.proofs.splitbox_find_taken.Tie as tie
@@ -11,7 +11,7 @@ find-taken-requires c κs = search rules
 reply-requires : tie.Need-reply-requires
 reply-requires c κs =
     let a = c.before.before.args in
-    rw c.find-taken.ensures (taken-fits (kindsTaken (record { matrices = a.matrices; tables = a.tables; trees = a.trees })) a.bytes.now)
+    rw c.find-taken.ensures (taken_fits (kinds_taken (record { matrices = a.matrices; tables = a.tables; trees = a.trees })) a.bytes.now)
 
 returns : tie.Need-returns
 returns c = rw c.before.find-taken.ensures at c.reply.ensures

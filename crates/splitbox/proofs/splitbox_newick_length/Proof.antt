@@ -1,7 +1,7 @@
 -- The reply and the lent number are those of the length.
-use Rattle.statement.specs.Calls.{measureNewick, newickMeasured}
-use Rattle.splitbox.proofs.Places.{newick-length-fits}
-use Rattle.splitbox.proofs.Back.{out-back}
+use Rattle.statement.specs.Calls.{measure_newick, newick_measured}
+use Rattle.splitbox.proofs.Places.{newick_length_fits}
+use Rattle.splitbox.proofs.Back.{out_back}
 use borrow.Author.Rules.{rules}
 use Rattle.splitbox.proofs.splitbox_newick_length.Statement.{statement}
 use Rattle.splitbox.proofs.splitbox_newick_length.Tie as tie
@@ -13,13 +13,13 @@ newick-length-requires : tie.Need-newick-length-requires
 newick-length-requires c κs = search rules
 
 reply-requires : tie.Need-reply-requires
-reply-requires c κs = rw c.newick-length.ensures.0 (newick-length-fits _ _)
+reply-requires c κs = rw c.newick-length.ensures.0 (newick_length_fits _ _)
 
 returns : tie.Need-returns
 returns c =
     let called = c.before in
     let a = called.before.before.before.args in
-    out-back (λ t. measureNewick a.n t) (λ t. newickMeasured a.n t a.length.now) _ _ called.before.before.given.ensures _ _ _
+    out_back (λ t. measure_newick a.n t) (λ t. newick_measured a.n t a.length.now) _ _ called.before.before.given.ensures _ _ _
     c.reply.ensures called.newick-length.ensures.0 called.newick-length.ensures.1
 
 pub splitbox-newick-length-spec : {M : Type 1} → statement M

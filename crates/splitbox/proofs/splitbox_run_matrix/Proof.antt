@@ -1,5 +1,5 @@
 -- The reply and the lent places are those of the whole run on a matrix.
-use Rattle.splitbox.proofs.Places.{matrix-run-fits}
+use Rattle.splitbox.proofs.Places.{matrix_run_fits}
 use borrow.Author.Rules.{rules}
 use Rattle.splitbox.proofs.splitbox_run_matrix.Statement.{statement}
 use Rattle.splitbox.proofs.splitbox_run_matrix.Tie as tie
@@ -8,7 +8,7 @@ run-matrix-requires : tie.Need-run-matrix-requires
 run-matrix-requires c κs = search rules
 
 hand-back-requires : tie.Need-hand-back-requires
-hand-back-requires c κs = rw c.before.before.before.before.before.run-matrix.ensures (matrix-run-fits _ _)
+hand-back-requires c κs = rw c.before.before.before.before.before.run-matrix.ensures (matrix_run_fits _ _)
 
 returns : tie.Need-returns
 returns c = rw c.before.before.before.before.before.before.run-matrix.ensures at c.hand-back.ensures

@@ -1,7 +1,7 @@
 -- The reply and the slice are those of the path sums.
-use Rattle.statement.specs.Calls.{sumPaths, pathsWritten}
-use Rattle.splitbox.proofs.Places.{paths-fit}
-use Rattle.splitbox.proofs.Back.{out-back}
+use Rattle.statement.specs.Calls.{sum_paths, paths_written}
+use Rattle.splitbox.proofs.Places.{paths_fit}
+use Rattle.splitbox.proofs.Back.{out_back}
 use borrow.Author.Rules.{rules}
 use Rattle.splitbox.proofs.splitbox_sum_paths.Statement.{statement}
 use Rattle.splitbox.proofs.splitbox_sum_paths.Tie as tie
@@ -13,7 +13,7 @@ sum-paths-requires : tie.Need-sum-paths-requires
 sum-paths-requires c κs = search rules
 
 reply-requires : tie.Need-reply-requires
-reply-requires c κs = rw c.before.before.sum-paths.ensures.0 (paths-fit _ _ _)
+reply-requires c κs = rw c.before.before.sum-paths.ensures.0 (paths_fit _ _ _)
 
 same_length : tie.Need-same-length
 same_length c = search rules
@@ -22,7 +22,7 @@ returns : tie.Need-returns
 returns c =
     let wrote = c.before.before.before in
     let a = wrote.before.before.before.before.args in
-    out-back (λ t. sumPaths a.n t a.out.now) (λ t. pathsWritten a.n t a.out.now) _ _ wrote.before.before.given.ensures _ _ _
+    out_back (λ t. sum_paths a.n t a.out.now) (λ t. paths_written a.n t a.out.now) _ _ wrote.before.before.given.ensures _ _ _
     c.reply.ensures wrote.sum-paths.ensures.0 wrote.sum-paths.ensures.1
 
 pub splitbox-sum-paths-spec : {M : Type 1} → statement M

@@ -7,9 +7,9 @@ use mathlib.Core.Path.{◌≡◌, sym, ◌∙◌}
 use mathlib.Core.Bool.{false, true≢false}
 use lib.ListN.{get_or}
 use Rattle.statement.specs.Rows.{conflicts, clashes}
-use Rattle.statement.proofs.Lowest.{some_at, none-at}
-use Rattle.statement.proofs.WellFormed.{conflicts-is}
-use Rattle.splits_list.proofs.Checks.{beside, not-beside}
+use Rattle.statement.proofs.Lowest.{some_at, none_at}
+use Rattle.statement.proofs.WellFormed.{conflicts_is}
+use Rattle.splits_list.proofs.Checks.{beside, not_beside}
 use Rattle.splits_list.proofs.row_clashes.Statement.{statement}
 use Rattle.splits_list.proofs.row_clashes.Tie as tie
 
@@ -39,7 +39,7 @@ returns c =
     let l = c.before.before.before in
     let a = l.before.before.args in
     sym (some_at (clashes a.k a.clusters.now a.i) a.i l.loop.j c.before.before.loop-test.true
-    (not-beside a.k a.clusters.now a.i l.loop.j (λ h. omega (arith, h.above))))
+    (not_beside a.k a.clusters.now a.i l.loop.j (λ h. omega (arith, h.above))))
 
 conflict-requires : tie.Need-conflict-requires invariant-loop decreases-loop
 conflict-requires c κs = search rules
@@ -59,7 +59,7 @@ returns-2 c =
     let l = c.before.before.before.before.before in
     let a = l.before.before.args in
     sym (some_at (clashes a.k a.clusters.now a.i) a.i l.loop.j c.before.before.before.before.loop-test.true
-    (not-beside a.k a.clusters.now a.i l.loop.j (λ h. h.clean ((conflicts-is a.k _ _).0 (sym (told c.before) ∙ c.if2.true)))))
+    (not_beside a.k a.clusters.now a.i l.loop.j (λ h. h.clean ((conflicts_is a.k _ _).0 (sym (told c.before) ∙ c.if2.true)))))
 
 add-j : tie.Need-overflow-add-j invariant-loop decreases-loop
 add-j c = search rules
@@ -74,14 +74,14 @@ loop-again c =
       omega arith,
       below_more _ _ l.loop.invariant.1
           (beside a.k a.clusters.now a.i l.loop.j
-          (record { above = omega arith; clean = λ h. true≢false (sym ((conflicts-is a.k _ _).1 h) ∙ sym (told c.before) ∙ c.if2.false) })),
+          (record { above = omega arith; clean = λ h. true≢false (sym ((conflicts_is a.k _ _).1 h) ∙ sym (told c.before) ∙ c.if2.false) })),
     )
 
 returns-3 : tie.Need-returns-3 invariant-loop decreases-loop
 returns-3 c =
     let l = c.before in
     let a = l.before.before.args in
-    sym (none-at (clashes a.k a.clusters.now a.i) a.i (λ j h. l.loop.invariant.1 j (omega arith)))
+    sym (none_at (clashes a.k a.clusters.now a.i) a.i (λ j h. l.loop.invariant.1 j (omega arith)))
 
 pub row-clashes-spec : {M : Type 1} → statement M
 row-clashes-spec =

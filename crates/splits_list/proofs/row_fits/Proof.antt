@@ -4,7 +4,7 @@ use borrow.Author.Tests.{lt-ltb, ltb-true, not-true, not-false}
 use native.Mathlib.Omega.{arith}
 use mathlib.Core.Path.{sym, ◌∙◌}
 use mathlib.Core.Bool.{true≢false}
-use Rattle.statement.proofs.Bits.{bit-zero}
+use Rattle.statement.proofs.Bits.{bit_zero}
 use Rattle.splits_list.proofs.Checks.{fit, unfit}
 use Rattle.splits_list.proofs.row_fits.Statement.{statement}
 use Rattle.splits_list.proofs.row_fits.Tie as tie
@@ -19,7 +19,7 @@ returns-2 : tie.Need-returns-2
 returns-2 c = unfit _ _ _ _ (λ h. true≢false (sym (lt-ltb _ _ h.split.below) ∙ sym c.before.within.ensures ∙ not-true _ c.if2.true))
 
 returns-3 : tie.Need-returns-3
-returns-3 c = unfit _ _ _ _ (λ h. c.if3.true (sym (bit-zero _) ∙ h.split.free))
+returns-3 c = unfit _ _ _ _ (λ h. c.if3.true (sym (bit_zero _) ∙ h.split.free))
 
 returns-4 : tie.Need-returns-4
 returns-4 c = unfit _ _ _ _ (λ h. omega (arith, h.low))
@@ -34,7 +34,7 @@ returns-6 c =
       split = record {
         some = omega arith;
         below = ltb-true _ _ (sym w.within.ensures ∙ not-false _ c.before.before.before.if2.false);
-        free = bit-zero _ ∙ c.before.before.if3.false;
+        free = bit_zero _ ∙ c.before.before.if3.false;
       };
       low = omega arith;
       high = c.if5.false;

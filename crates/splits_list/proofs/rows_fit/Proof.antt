@@ -6,14 +6,14 @@ use borrow.Author.Count.{below_none, below_more}
 use borrow.Author.Tests.{not-true, not-false}
 use mathlib.Core.Path.{◌≡◌, sym, ◌∙◌, ap}
 use mathlib.Core.Bool.{true, false, not}
-use Rattle.statement.specs.Rows.{badRow}
-use Rattle.statement.proofs.Lowest.{some_at, none-at}
-use Rattle.splits_list.proofs.Checks.{here, bad-row, splits}
+use Rattle.statement.specs.Rows.{bad_row}
+use Rattle.statement.proofs.Lowest.{some_at, none_at}
+use Rattle.splits_list.proofs.Checks.{here, bad_row_law, splits}
 use Rattle.splits_list.proofs.rows_fit.Statement.{statement}
 use Rattle.splits_list.proofs.rows_fit.Tie as tie
 
 abbrev invariant-loop : tie.invariant-loop
-invariant-loop most s k rows clusters i₀ i = (i ≤ rows) × ((j : ℕ) → j < i → badRow most s j ≡ false)
+invariant-loop most s k rows clusters i₀ i = (i ≤ rows) × ((j : ℕ) → j < i → bad_row most s j ≡ false)
 
 abbrev decreases-loop : tie.decreases-loop
 decreases-loop most s k rows clusters i₀ i = rows - i
@@ -40,8 +40,8 @@ returns : tie.Need-returns invariant-loop decreases-loop
 returns c =
     let l = c.before.before.before.before in
     let a = l.before.before.args in
-    sym (ap not (some_at (badRow a.most a.t2) a.t2.rows l.loop.i (omega arith)
-    (bad-row a.most a.t2 l.loop.i (sym c.before.row-fits.ensures ∙ not-true _ c.if1.true))))
+    sym (ap not (some_at (bad_row a.most a.t2) a.t2.rows l.loop.i (omega arith)
+    (bad_row_law a.most a.t2 l.loop.i (sym c.before.row-fits.ensures ∙ not-true _ c.if1.true))))
 
 -- past the first test
 fit-here : (c : tie.Else1 invariant-loop decreases-loop)
@@ -57,17 +57,17 @@ row-clashes-requires c κs =
 -- and the second
 tested-here : (c : tie.After-row-clashes invariant-loop decreases-loop)
     → let l = c.before.before.before.before.before.before in
-    badRow l.before.before.args.most l.before.before.args.t2 l.loop.i ≡ c.row-clashes.result
+    bad_row l.before.before.args.most l.before.before.args.t2 l.loop.i ≡ c.row-clashes.result
 tested-here c =
     let l = c.before.before.before.before.before.before in
     let a = l.before.before.args in
-    bad-row a.most a.t2 l.loop.i (fit-here c.before.before) ∙ sym c.row-clashes.ensures
+    bad_row_law a.most a.t2 l.loop.i (fit-here c.before.before) ∙ sym c.row-clashes.ensures
 
 returns-2 : tie.Need-returns-2 invariant-loop decreases-loop
 returns-2 c =
     let l = c.before.before.before.before.before.before.before in
     let a = l.before.before.args in
-    sym (ap not (some_at (badRow a.most a.t2) a.t2.rows l.loop.i (omega arith) (tested-here c.before ∙ c.if2.true)))
+    sym (ap not (some_at (bad_row a.most a.t2) a.t2.rows l.loop.i (omega arith) (tested-here c.before ∙ c.if2.true)))
 
 add-i : tie.Need-overflow-add-i invariant-loop decreases-loop
 add-i c = search rules
@@ -84,7 +84,7 @@ returns-3 : tie.Need-returns-3 invariant-loop decreases-loop
 returns-3 c =
     let l = c.before in
     let a = l.before.before.args in
-    sym (ap not (none-at (badRow a.most a.t2) a.t2.rows (λ j h. l.loop.invariant.1 j (omega arith))))
+    sym (ap not (none_at (bad_row a.most a.t2) a.t2.rows (λ j h. l.loop.invariant.1 j (omega arith))))
 
 pub rows-fit-spec : {M : Type 1} → statement M
 rows-fit-spec =

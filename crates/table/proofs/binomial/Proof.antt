@@ -5,7 +5,7 @@ use native.Mathlib.Omega.{arith}
 use mathlib.Core.Path.{◌≡◌, refl, sym}
 use borrow.Author.Rules.{rules}
 use Rattle.statement.specs.Table.{choose}
-use Rattle.table.proofs.Choose.{choose-none, choose-next, choose-fits}
+use Rattle.table.proofs.Choose.{choose_none, choose_next, choose_fits}
 use Rattle.table.proofs.binomial.Statement.{statement}
 use Rattle.table.proofs.binomial.Tie as tie
 
@@ -16,7 +16,7 @@ abbrev decreases-loop : tie.decreases-loop
 decreases-loop p q r₀ i₀ r i = q - i
 
 returns : tie.Need-returns invariant-loop decreases-loop
-returns c = sym (choose-none c.before.args.p c.before.args.q (omega arith))
+returns c = sym (choose_none c.before.args.p c.before.args.q (omega arith))
 
 loop-holds : tie.Need-loop-init invariant-loop decreases-loop
 unfolding choose
@@ -29,7 +29,7 @@ mul-r : tie.Need-overflow-mul-r invariant-loop decreases-loop
 mul-r c =
     let p = c.before.before.before.args.p in
     let l = c.before.loop in
-    let f : l.r * (p - l.i) ≤ 64 ^ 5 = rw l.invariant.1 (choose-fits p l.i (omega arith) (omega arith)) in
+    let f : l.r * (p - l.i) ≤ 64 ^ 5 = rw l.invariant.1 (choose_fits p l.i (omega arith) (omega arith)) in
     omega arith
 
 add_r : tie.Need-overflow-add-r invariant-loop decreases-loop
@@ -47,7 +47,7 @@ loop-less c = search rules
 loop-again : tie.Need-loop-preserved invariant-loop decreases-loop
 loop-again c =
     let l = c.before.loop in
-    (omega arith, rw (l.invariant.1, add-one) (choose-next c.before.before.before.args.p l.i))
+    (omega arith, rw (l.invariant.1, add-one) (choose_next c.before.before.before.args.p l.i))
 
 returns-2 : tie.Need-returns-2 invariant-loop decreases-loop
 returns-2 c = let e : c.before.loop.i ≡ c.before.before.before.args.q = omega arith in rw e at c.before.loop.invariant.1

@@ -3,20 +3,20 @@ use Prim.Native.Nat.{ℕ, ◌+◌, ◌<◌}
 use native.Mathlib.Omega.{arith}
 use mathlib.Core.Path.{sym, ◌∙◌, ap}
 use Rattle.table_trial.specs.Sets.{put}
-use Rattle.table.proofs.Choose.{pair-below}
-use Rattle.table_trial.proofs.Marks.{marked-one, marked-two, marked-three, marked-none}
+use Rattle.table.proofs.Choose.{pair_below}
+use Rattle.table_trial.proofs.Marks.{marked_one, marked_two, marked_three, marked_none}
 use Rattle.table_trial.proofs.mark.Statement.{statement}
 use Rattle.table_trial.proofs.mark.Tie as tie
 
 -- the three places
 one : (s : tie.Start) → s.args.below + s.args.i < 2016
-one s = let a = s.args in omega (arith, s.requires.3, pair-below a.i a.j s.requires.0 (omega arith))
+one s = let a = s.args in omega (arith, s.requires.3, pair_below a.i a.j s.requires.0 (omega arith))
 
 two : (s : tie.Start) → s.args.above + s.args.i < 2016
-two s = let a = s.args in omega (arith, s.requires.4, pair-below a.i a.l (omega arith) s.requires.2)
+two s = let a = s.args in omega (arith, s.requires.4, pair_below a.i a.l (omega arith) s.requires.2)
 
 three : (s : tie.Start) → s.args.above + s.args.j < 2016
-three s = let a = s.args in omega (arith, s.requires.4, pair-below a.j a.l s.requires.1 s.requires.2)
+three s = let a = s.args in omega (arith, s.requires.4, pair_below a.j a.l s.requires.1 s.requires.2)
 
 add-put : tie.Need-overflow-add-put
 add-put c = omega (arith, one c.before)
@@ -31,7 +31,7 @@ returns c =
     let a = s.args in
     c.put.ensures
     ∙ ap (λ (m : ℕ). put a.sets.now (m + a.i) a.l) s.requires.3
-    ∙ sym (marked-one a.i a.j a.l a.sets.now a.byte t.if1.true)
+    ∙ sym (marked_one a.i a.j a.l a.sets.now a.byte t.if1.true)
 
 add-put-2 : tie.Need-overflow-add-put-2
 add-put-2 c = omega (arith, two c.before.before)
@@ -46,7 +46,7 @@ returns-2 c =
     let a = s.args in
     c.put2.ensures
     ∙ ap (λ (m : ℕ). put a.sets.now (m + a.i) a.j) s.requires.4
-    ∙ sym (marked-two a.i a.j a.l a.sets.now a.byte t.if2.true)
+    ∙ sym (marked_two a.i a.j a.l a.sets.now a.byte t.if2.true)
 
 add-put-3 : tie.Need-overflow-add-put-3
 add-put-3 c = omega (arith, three c.before.before.before)
@@ -61,10 +61,10 @@ returns-3 c =
     let a = s.args in
     c.put3.ensures
     ∙ ap (λ (m : ℕ). put a.sets.now (m + a.j) a.i) s.requires.4
-    ∙ sym (marked-three a.i a.j a.l a.sets.now a.byte t.if3.true)
+    ∙ sym (marked_three a.i a.j a.l a.sets.now a.byte t.if3.true)
 
 returns-4 : tie.Need-returns-4
-returns-4 c = sym (marked-none _ _ _ _ _ c.before.before.if1.false c.before.if2.false c.if3.false)
+returns-4 c = sym (marked_none _ _ _ _ _ c.before.before.if1.false c.before.if2.false c.if3.false)
 
 pub mark_spec : {M : Type 1} → statement M
 mark_spec =

@@ -5,8 +5,8 @@ use mathlib.Core.Path.{◌≡◌, ap}
 use lib.ListN.{length, get_or}
 use Rattle.statement.specs.Table.{place}
 use Rattle.table_trial.specs.Sets.{Filled}
-use Rattle.table.proofs.Choose.{place-below}
-use Rattle.table_trial.proofs.Marks.{filled-turn, row-end}
+use Rattle.table.proofs.Choose.{place_below}
+use Rattle.table_trial.proofs.Marks.{filled_turn, row_end}
 use borrow.Author.Rules.{rules}
 use Rattle.table_trial.proofs.mark_row.Statement.{statement}
 use Rattle.table_trial.proofs.mark_row.Tie as tie
@@ -34,7 +34,7 @@ within : (c : tie.In-loop invariant-loop decreases-loop) → let a = c.before.be
 within c =
     let s = c.before.before.before.before.before in
     let a = s.args in
-    omega (arith, s.requires.0.1, s.requires.0.5, place-below c.before.loop.i a.j a.l a.x a.n c.loop-test.true s.requires.0.2 s.requires.0.3 s.requires.0.4)
+    omega (arith, s.requires.0.1, s.requires.0.5, place_below c.before.loop.i a.j a.l a.x a.n c.loop-test.true s.requires.0.2 s.requires.0.3 s.requires.0.4)
 
 add-mark : tie.Need-overflow-add-mark invariant-loop decreases-loop
 add-mark c = omega (arith, within c)
@@ -63,7 +63,7 @@ loop-again c =
     let a = s.args in
     let e : a.at + l.loop.i ≡ place l.loop.i a.j a.l a.x = omega (arith, s.requires.0.5) in (
       omega arith,
-      filled-turn a.bytes.now a.x (omega (arith, s.requires.0.0, s.requires.0.4)) l.loop.i a.j a.l _ l.loop.sets _ i.loop-test.true s.requires.0.2 s.requires.0.3
+      filled_turn a.bytes.now a.x (omega (arith, s.requires.0.0, s.requires.0.4)) l.loop.i a.j a.l _ l.loop.sets _ i.loop-test.true s.requires.0.2 s.requires.0.3
           (ap (λ (p : ℕ). get_or a.bytes.now p 0) e) l.loop.invariant.1 c.mark.ensures,
     )
 
@@ -73,7 +73,7 @@ returns c =
     let s = l.before.before.before.before in
     let a = s.args in
     let e : l.loop.i ≡ a.j = omega arith in
-    row-end a.bytes.now a.x (omega (arith, s.requires.0.0, s.requires.0.4)) a.j a.l l.loop.sets s.requires.0.2 s.requires.0.3 (rw e at l.loop.invariant.1)
+    row_end a.bytes.now a.x (omega (arith, s.requires.0.0, s.requires.0.4)) a.j a.l l.loop.sets s.requires.0.2 s.requires.0.3 (rw e at l.loop.invariant.1)
 
 pub mark-row-spec : {M : Type 1} → statement M
 mark-row-spec =

@@ -4,7 +4,7 @@ use native.Mathlib.Omega.{arith}
 use mathlib.Core.Path.{◌≡◌}
 use Rattle.statement.specs.Table.{choose}
 use Rattle.table_trial.specs.Sets.{Filled}
-use Rattle.table.proofs.Choose.{choose-none, choose_one, choose-more, place-below}
+use Rattle.table.proofs.Choose.{choose_none, choose_one, choose_more, place_below}
 use Rattle.table_trial.proofs.Marks.{rows_end}
 use borrow.Author.Rules.{rules}
 use Rattle.table_trial.proofs.mark_rows.Statement.{statement}
@@ -18,7 +18,7 @@ abbrev decreases-loop : tie.decreases-loop
 decreases-loop n bytes x l from sets₀ at₀ j₀ sets at j = l - j
 
 loop-holds : tie.Need-loop-init invariant-loop decreases-loop
-loop-holds c = let s = c.before in (omega arith, omega (arith, s.requires.0.2), omega (arith, s.requires.0.5, choose-none 1 2 (omega arith)), s.requires.1)
+loop-holds c = let s = c.before in (omega arith, omega (arith, s.requires.0.2), omega (arith, s.requires.0.5, choose_none 1 2 (omega arith)), s.requires.1)
 
 mark-row-requires : tie.Need-mark-row-requires invariant-loop decreases-loop
 mark-row-requires c κs =
@@ -33,7 +33,7 @@ add_at c =
     let l = i.before in
     let s = l.before.before in
     let a = s.args in
-    omega (arith, l.loop.invariant.2, s.requires.0.1, place-below 0 l.loop.j a.l a.x a.n l.loop.invariant.0 i.loop-test.true s.requires.0.3 s.requires.0.4)
+    omega (arith, l.loop.invariant.2, s.requires.0.1, place_below 0 l.loop.j a.l a.x a.n l.loop.invariant.0 i.loop-test.true s.requires.0.3 s.requires.0.4)
 
 add-j : tie.Need-overflow-add-j invariant-loop decreases-loop
 add-j c = search rules
@@ -45,7 +45,7 @@ loop-again : tie.Need-loop-preserved invariant-loop decreases-loop
 loop-again c =
     let l = c.before.before.before in
     let j = l.loop.j in
-    (omega arith, omega arith, omega (arith, l.loop.invariant.2, choose-more j 1, choose_one j), c.mark-row.ensures)
+    (omega arith, omega arith, omega (arith, l.loop.invariant.2, choose_more j 1, choose_one j), c.mark-row.ensures)
 
 returns : tie.Need-returns invariant-loop decreases-loop
 returns c =
@@ -53,7 +53,7 @@ returns c =
     let s = l.before.before in
     let a = s.args in
     let e : l.loop.j ≡ a.l = omega (arith, l.loop.invariant.1) in (
-      omega (arith, rw e at l.loop.invariant.2, choose-more a.l 2),
+      omega (arith, rw e at l.loop.invariant.2, choose_more a.l 2),
       rows_end a.bytes.now a.x (omega (arith, s.requires.0.0, s.requires.0.4)) a.l l.loop.sets s.requires.0.2 s.requires.0.3 (rw e at l.loop.invariant.3),
     )
 

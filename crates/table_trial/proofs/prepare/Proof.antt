@@ -4,7 +4,7 @@ use native.Mathlib.Omega.{arith}
 use mathlib.Core.Path.{◌≡◌}
 use Rattle.statement.specs.Table.{choose}
 use Rattle.table_trial.specs.Sets.{Filled}
-use Rattle.table.proofs.Choose.{choose-none}
+use Rattle.table.proofs.Choose.{choose_none}
 use Rattle.table_trial.proofs.Marks.{filled_none, prepared}
 use borrow.Author.Rules.{rules}
 use Rattle.table_trial.proofs.prepare.Statement.{statement}
@@ -28,7 +28,7 @@ loop-holds c =
     let s = k.before.before.before in
     let a = s.args in (
       omega arith,
-      omega (arith, c.fours.ensures, choose-none 2 3 (omega arith)),
+      omega (arith, c.fours.ensures, choose_none 2 3 (omega arith)),
       filled_none a.bytes.now a.x (omega (arith, s.requires)) _ k.clear.ensures.0 k.clear.ensures.1,
     )
 

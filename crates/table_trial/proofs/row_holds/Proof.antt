@@ -6,7 +6,7 @@ use mathlib.Core.Bool.{true≢false}
 use lib.Bits.{bit_and}
 use lib.ListN.{get_or}
 use borrow.Author.Count.{below_none, below_more}
-use Rattle.table.proofs.Choose.{pair-below}
+use Rattle.table.proofs.Choose.{pair_below}
 use borrow.Author.Rules.{rules}
 use Rattle.table_trial.proofs.row_holds.Statement.{statement}
 use Rattle.table_trial.proofs.row_holds.Tie as tie
@@ -25,7 +25,7 @@ within : (c : tie.In-loop invariant-loop decreases-loop) → let l = c.before in
 within c =
     let l = c.before in
     let s = l.before.before in
-    omega (arith, l.before.binomial.ensures, pair-below (get_or s.args.taxa.now l.loop.j 0) s.args.q (s.requires.2 l.loop.j c.loop-test.true) s.requires.0)
+    omega (arith, l.before.binomial.ensures, pair_below (get_or s.args.taxa.now l.loop.j 0) s.args.q (s.requires.2 l.loop.j c.loop-test.true) s.requires.0)
 
 loop-holds : tie.Need-loop-init invariant-loop decreases-loop
 loop-holds c = (omega arith, below_none _)

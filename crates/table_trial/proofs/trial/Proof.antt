@@ -3,8 +3,8 @@ use Prim.Native.Nat.{ℕ, suc, min}
 use native.Mathlib.Omega.{arith}
 use mathlib.Core.Path.{◌≡◌, refl}
 use borrow.Author.Tests.{not-true, not-false}
-use Rattle.statement.specs.Growing.{tableTrial}
-use Rattle.table_trial.proofs.Trials.{trial-fails, trial-holds, trial-few, trial-alone}
+use Rattle.statement.specs.Growing.{table_trial}
+use Rattle.table_trial.proofs.Trials.{trial_fails, trial_holds, trial_few, trial_alone}
 use borrow.Author.Rules.{rules}
 use Rattle.table_trial.proofs.trial.Statement.{statement}
 use Rattle.table_trial.proofs.trial.Tie as tie
@@ -27,7 +27,7 @@ returns c =
     let m = o.before in
     let s = m.before.before.before in
     let a = s.args in
-    trial-fails a.n a.bytes.now a.x a.c a.w _ _ _ _ s.requires.2 m.members.ensures o.side-of.ensures (h.rows-hold.ensures.1 (not-true _ c.if1.true))
+    trial_fails a.n a.bytes.now a.x a.c a.w _ _ _ _ s.requires.2 m.members.ensures o.side-of.ensures (h.rows-hold.ensures.1 (not-true _ c.if1.true))
 
 returns-2 : tie.Need-returns-2
 returns-2 c =
@@ -35,7 +35,7 @@ returns-2 c =
     let m = o.before in
     let s = m.before.before.before in
     let a = s.args in
-    trial-few a.n a.bytes.now a.x a.c a.w _ _ _ _ s.requires.2 m.members.ensures o.side-of.ensures c.if2.true
+    trial_few a.n a.bytes.now a.x a.c a.w _ _ _ _ s.requires.2 m.members.ensures o.side-of.ensures c.if2.true
 
 returns-3 : tie.Need-returns-3
 returns-3 c =
@@ -43,11 +43,11 @@ returns-3 c =
     let m = o.before in
     let s = m.before.before.before in
     let a = s.args in
-    trial-alone a.n a.bytes.now a.x a.c a.w _ _ _ _ s.requires.2 m.members.ensures o.side-of.ensures c.if3.true
+    trial_alone a.n a.bytes.now a.x a.c a.w _ _ _ _ s.requires.2 m.members.ensures o.side-of.ensures c.if3.true
 
 -- the side is in every set, and neither side is too small
 held : (c : tie.Else3)
-    → let a = c.before.before.before.before.before.before.before.before.before.args in (r : ℕ) → r ≡ min a.w 1 → r ≡ tableTrial a.bytes.now (suc a.x) a.x a.c a.w
+    → let a = c.before.before.before.before.before.before.before.before.before.args in (r : ℕ) → r ≡ min a.w 1 → r ≡ table_trial a.bytes.now (suc a.x) a.x a.c a.w
 held c r e =
     let few = c.before in
     let h = few.before.before in
@@ -55,7 +55,7 @@ held c r e =
     let m = o.before in
     let s = m.before.before.before in
     let a = s.args in
-    trial-holds a.n a.bytes.now a.x a.c a.w _ _ _ _ s.requires.2 m.members.ensures o.side-of.ensures (h.rows-hold.ensures.0 (not-false _ few.before.if1.false))
+    trial_holds a.n a.bytes.now a.x a.c a.w _ _ _ _ s.requires.2 m.members.ensures o.side-of.ensures (h.rows-hold.ensures.0 (not-false _ few.before.if1.false))
     few.if2.false c.if3.false e
 
 returns-4 : tie.Need-returns-4

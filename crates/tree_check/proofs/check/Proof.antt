@@ -1,15 +1,15 @@
 -- Each way out is a law of the list of checks.
-use Rattle.tree_check.proofs.Tested.{fits-long}
+use Rattle.tree_check.proofs.Tested.{fits_long}
 use Prim.Native.Nat.{◌+◌}
 use native.Mathlib.Omega.{arith}
 use mathlib.Core.Path.{sym, ◌∙◌, ap}
 use borrow.Author.Rules.{rules}
 use borrow.Author.Tests.{not-true, not-false}
 use lib.ListN.{length, length-drop}
-use Rattle.statement.specs.Bytes.{treeIn}
-use Rattle.statement.specs.Refusals.{Passed, weightOff, walkOff}
-use Rattle.tree_check.proofs.Ways.{too_few, too_many, wrong-length, Fitting, wrong-count, wrong-vertex, Shaped}
-use Rattle.tree_check.proofs.Ways.{wrong-weight, weights-good, wrong-walk, walks-good, wrong-home, none-wrong}
+use Rattle.statement.specs.Bytes.{tree_in}
+use Rattle.statement.specs.Refusals.{Passed, weight_off, walk_off}
+use Rattle.tree_check.proofs.Ways.{too_few, too_many, wrong_length, Fitting, wrong_count, wrong_vertex, Shaped}
+use Rattle.tree_check.proofs.Ways.{wrong_weight, weights_good, wrong_walk, walks_good, wrong_home, none_wrong}
 use Rattle.tree_check.proofs.check.Statement.{statement}
 use Rattle.tree_check.proofs.check.Tie as tie
 
@@ -29,11 +29,11 @@ tree-fits-requires c κs = search rules
 returns-3 : tie.Need-returns-3
 returns-3 c =
     let a = c.before.before.before.before.before.args in
-    wrong-length a.n a.body.now (c.before.before.before.if1.false, c.before.before.if2.false)
+    wrong_length a.n a.body.now (c.before.before.before.if1.false, c.before.before.if2.false)
     (sym (not-true _ c.if3.true) ∙ c.before.tree-fits.ensures)
 
 shared-slice-read-vertex : tie.Need-shared-slice-read-vertex
-shared-slice-read-vertex c = omega (arith, fits-long _ _ (sym (not-false _ c.before.if3.false) ∙ c.before.before.tree-fits.ensures))
+shared-slice-read-vertex c = omega (arith, fits_long _ _ (sym (not-false _ c.before.if3.false) ∙ c.before.before.tree-fits.ensures))
 
 vertex-requires : tie.Need-vertex-requires
 vertex-requires c κs = search rules
@@ -68,7 +68,7 @@ fitting c =
     }
 
 returns-4 : tie.Need-returns-4
-returns-4 c = let a = (start c.before).args in wrong-count a.n a.body.now _ (fitting c.before) c.if4.true
+returns-4 c = let a = (start c.before).args in wrong_count a.n a.body.now _ (fitting c.before) c.if4.true
 
 add-some-above : tie.Need-overflow-add-some-above
 add-some-above c = search rules
@@ -80,7 +80,7 @@ returns-5 : tie.Need-returns-5
 returns-5 c =
     let sized = c.before.before in
     let a = (start sized.before).args in
-    wrong-vertex a.n a.body.now _ (fitting sized.before) sized.if4.false (sym c.if5.true ∙ c.before.some-above.ensures)
+    wrong_vertex a.n a.body.now _ (fitting sized.before) sized.if4.false (sym c.if5.true ∙ c.before.some-above.ensures)
 
 -- past refusal 9
 shaped : (c : tie.Else5) → let v = c.before.before.before in let a = (start v).args in Shaped a.n a.body.now v.vertex.result
@@ -102,14 +102,14 @@ returns-6 : tie.Need-returns-6
 returns-6 c =
     let s = c.before.before.before in
     let a = (start s.before.before.before).args in
-    wrong-weight a.n a.body.now _ (shaped s) _ c.before.before.weights-in.ensures _ c.before.lowest-bad-weight.ensures c.if6.true
+    wrong_weight a.n a.body.now _ (shaped s) _ c.before.before.weights-in.ensures _ c.before.lowest-bad-weight.ensures c.if6.true
 
 -- past refusal 14
-weighed : (c : tie.Else6) → let a = (start (past9 c).before.before.before).args in Passed (weightOff (treeIn a.n a.body.now))
+weighed : (c : tie.Else6) → let a = (start (past9 c).before.before.before).args in Passed (weight_off (tree_in a.n a.body.now))
 weighed c =
     let s = past9 c in
     let a = (start s.before.before.before).args in
-    weights-good a.n a.body.now _ (shaped s) _ c.before.before.weights-in.ensures _ c.before.lowest-bad-weight.ensures c.if6.false
+    weights_good a.n a.body.now _ (shaped s) _ c.before.before.weights-in.ensures _ c.before.lowest-bad-weight.ensures c.if6.false
 
 links-in-requires : tie.Need-links-in-requires
 links-in-requires c κs = search rules
@@ -122,14 +122,14 @@ returns-7 c =
     let w = c.before.before.before in
     let s = past9 w in
     let a = (start s.before.before.before).args in
-    wrong-walk a.n a.body.now _ (shaped s) _ c.before.before.links-in.ensures _ c.before.lowest-stray.ensures (weighed w) c.if7.true
+    wrong_walk a.n a.body.now _ (shaped s) _ c.before.before.links-in.ensures _ c.before.lowest-stray.ensures (weighed w) c.if7.true
 
 -- past refusal 10
-walked : (c : tie.Else7) → let a = (start (past9 (past14 c)).before.before.before).args in Passed (walkOff (treeIn a.n a.body.now))
+walked : (c : tie.Else7) → let a = (start (past9 (past14 c)).before.before.before).args in Passed (walk_off (tree_in a.n a.body.now))
 walked c =
     let s = past9 (past14 c) in
     let a = (start s.before.before.before).args in
-    walks-good a.n a.body.now _ (shaped s) _ c.before.before.links-in.ensures _ c.before.lowest-stray.ensures c.if7.false
+    walks_good a.n a.body.now _ (shaped s) _ c.before.before.links-in.ensures _ c.before.lowest-stray.ensures c.if7.false
 
 add-vertex : tie.Need-overflow-add-vertex
 add-vertex c = search rules
@@ -146,7 +146,7 @@ returns-8 c =
     let w = past14 r in
     let s = past9 w in
     let a = (start s.before.before.before).args in
-    wrong-home a.n a.body.now _ (shaped s) (weighed w) (walked r) _ c.before.vertex2.ensures c.if8.true
+    wrong_home a.n a.body.now _ (shaped s) (weighed w) (walked r) _ c.before.vertex2.ensures c.if8.true
 
 returns-9 : tie.Need-returns-9
 returns-9 c =
@@ -154,7 +154,7 @@ returns-9 c =
     let w = past14 r in
     let s = past9 w in
     let a = (start s.before.before.before).args in
-    none-wrong a.n a.body.now _ (shaped s) (weighed w) (walked r) _ c.before.vertex2.ensures c.if8.false
+    none_wrong a.n a.body.now _ (shaped s) (weighed w) (walked r) _ c.before.vertex2.ensures c.if8.false
 
 pub check-spec : {M : Type 1} → statement M
 check-spec =

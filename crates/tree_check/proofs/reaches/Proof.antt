@@ -8,9 +8,9 @@ use lib.ListN.{length}
 use borrow.Author.Count.{below_none, below_more}
 use borrow.Author.Tests.{eq-eqb, ne_eqb}
 use Rattle.statement.specs.Tree.{walk}
-use Rattle.statement.proofs.Lowest.{some_at, none-at}
+use Rattle.statement.proofs.Lowest.{some_at, none_at}
 use Rattle.tree_check.specs.Parts.{linked}
-use Rattle.tree_check.proofs.Walked.{walk-next}
+use Rattle.tree_check.proofs.Walked.{walk_next}
 use borrow.Author.Rules.{rules}
 use Rattle.tree_check.proofs.reaches.Statement.{statement}
 use Rattle.tree_check.proofs.reaches.Tie as tie
@@ -48,7 +48,7 @@ loop-again c =
     let a = l.before.before.args in
     let at = l.loop.invariant.1 in (
       omega arith,
-      walk-next (linked a.links.now) l.loop.s a.v l.loop.at _ at c.step-up.ensures,
+      walk_next (linked a.links.now) l.loop.s a.v l.loop.at _ at c.step-up.ensures,
       below_more _ _ l.loop.invariant.2 (ne_eqb _ _ (λ e. c.before.if1.false (at ∙ e))),
     )
 
@@ -57,7 +57,7 @@ returns-2 c =
     let l = c.before in
     let a = l.before.before.args in
     let links = a.links.now in
-    sym (none-at (λ s. eqb (walk (linked links) s a.v) (length links)) (suc (length links)) (λ j h. l.loop.invariant.2 j (omega arith)))
+    sym (none_at (λ s. eqb (walk (linked links) s a.v) (length links)) (suc (length links)) (λ j h. l.loop.invariant.2 j (omega arith)))
 
 pub reaches-spec : {M : Type 1} → statement M
 reaches-spec =

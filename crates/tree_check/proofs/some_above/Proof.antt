@@ -7,7 +7,7 @@ use lib.Dec.{ltb}
 use lib.ListN.{get_or}
 use borrow.Author.Count.{below_none, below_more}
 use borrow.Author.Tests.{lt-ltb, le-ltb}
-use Rattle.statement.proofs.Lowest.{some_at, none-at}
+use Rattle.statement.proofs.Lowest.{some_at, none_at}
 use borrow.Author.Rules.{rules}
 use Rattle.tree_check.proofs.some_above.Statement.{statement}
 use Rattle.tree_check.proofs.some_above.Tie as tie
@@ -52,7 +52,7 @@ returns-2 : tie.Need-returns-2 invariant-loop decreases-loop
 returns-2 c =
     let l = c.before in
     let a = l.before.before.args in
-    sym (none-at (λ i. ltb a.m (get_or a.body.now (1 + i) 0)) a.count (λ j h. l.loop.invariant.1 j (omega arith)))
+    sym (none_at (λ i. ltb a.m (get_or a.body.now (1 + i) 0)) a.count (λ j h. l.loop.invariant.1 j (omega arith)))
 
 pub some-above-spec : {M : Type 1} → statement M
 some-above-spec =

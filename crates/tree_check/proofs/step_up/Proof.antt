@@ -1,7 +1,7 @@
 -- Within the links their entry, past them the root.
 use mathlib.Core.Path.{sym, ◌∙◌}
 use lib.ListN.{length, get_or-eq_default}
-use Rattle.tree_body.proofs.Body.{within-list}
+use Rattle.tree_body.proofs.Body.{within_list}
 use borrow.Author.Rules.{rules}
 use Rattle.tree_check.proofs.step_up.Statement.{statement}
 use Rattle.tree_check.proofs.step_up.Tie as tie
@@ -15,7 +15,7 @@ vertex-requires c κs = search rules
 returns : tie.Need-returns
 returns c =
     let links = c.before.before.before.before.args.links.now in
-    c.vertex.ensures ∙ within-list links c.before.before.before.before.args.v 0 (length links) c.before.before.if1.true
+    c.vertex.ensures ∙ within_list links c.before.before.before.before.args.v 0 (length links) c.before.before.if1.true
 
 returns-2 : tie.Need-returns-2
 returns-2 c = let links = c.before.before.args.links.now in sym (get_or-eq_default links (length links) c.if1.false)

@@ -5,15 +5,15 @@ use borrow.Author.Rules.{rules}
 use mathlib.Core.Path.{◌≡◌, refl, sym, ◌∙◌, ap}
 use lib.ListN.{length, get_or, get_or-replicate}
 use lib.Pow.{pow_mono}
-use Rattle.statement.specs.Tree.{clusterOf}
+use Rattle.statement.specs.Tree.{cluster_of}
 use Rattle.tree_check.specs.Parts.{placed}
-use Rattle.tree_read.proofs.Marking.{cluster-none, cluster-below, cluster-more}
+use Rattle.tree_read.proofs.Marking.{cluster_none, cluster_below, cluster_more}
 use Rattle.tree_read.proofs.clusters_of.Statement.{statement}
 use Rattle.tree_read.proofs.clusters_of.Tie as tie
 
 abbrev invariant-loop : tie.invariant-loop
 invariant-loop links homes clusters₀ i₀ clusters i =
-    (i ≤ length homes) × (length clusters ≡ 125) × ((v : ℕ) → v < length links → get_or clusters v 0 ≡ clusterOf (placed links homes) v i)
+    (i ≤ length homes) × (length clusters ≡ 125) × ((v : ℕ) → v < length links → get_or clusters v 0 ≡ cluster_of (placed links homes) v i)
 
 abbrev decreases-loop : tie.decreases-loop
 decreases-loop links homes clusters₀ i₀ clusters i = length homes - i
@@ -21,7 +21,7 @@ decreases-loop links homes clusters₀ i₀ clusters i = length homes - i
 loop-holds : tie.Need-loop-init invariant-loop decreases-loop
 loop-holds c =
     let a = c.before.before.args in
-    (omega arith, refl, λ v h. get_or-replicate 125 v 0 0 (omega arith) ∙ sym (cluster-none (placed a.links.now a.homes.now) v))
+    (omega arith, refl, λ v h. get_or-replicate 125 v 0 0 (omega arith) ∙ sym (cluster_none (placed a.links.now a.homes.now) v))
 
 shared-slice-read-vertex : tie.Need-shared-slice-read-vertex invariant-loop decreases-loop
 shared-slice-read-vertex c = search rules
@@ -39,7 +39,7 @@ mark-requires c κs =
     let t = placed a.links.now a.homes.now in
     let one = c.single.ensures in (
       (omega arith, l.loop.invariant.1, omega (arith, pow_mono {i = l.loop.i} {j = 63} (omega arith))),
-      λ v h. omega (arith, l.loop.invariant.2 v h, cluster-below t v l.loop.i),
+      λ v h. omega (arith, l.loop.invariant.2 v h, cluster_below t v l.loop.i),
     )
 
 add-i : tie.Need-overflow-add-i invariant-loop decreases-loop
@@ -56,7 +56,7 @@ loop-again c =
       omega arith,
       marked.long,
       λ v h.
-          cluster-more a.links.now a.homes.now v l.loop.i _ _ _ _ (l.loop.invariant.2 v h) c.before.before.vertex.ensures
+          cluster_more a.links.now a.homes.now v l.loop.i _ _ _ _ (l.loop.invariant.2 v h) c.before.before.vertex.ensures
           c.before.single.ensures (marked.each v h),
     )
 
@@ -65,7 +65,7 @@ returns c =
     let l = c.before in
     let a = l.before.before.before.args in
     let e : l.loop.i ≡ length a.homes.now = omega arith in
-    record { long = l.loop.invariant.1; each = λ v h. l.loop.invariant.2 v h ∙ ap (clusterOf (placed a.links.now a.homes.now) v) e }
+    record { long = l.loop.invariant.1; each = λ v h. l.loop.invariant.2 v h ∙ ap (cluster_of (placed a.links.now a.homes.now) v) e }
 
 pub clusters-of-spec : {M : Type 1} → statement M
 clusters-of-spec =

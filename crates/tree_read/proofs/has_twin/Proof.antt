@@ -8,7 +8,7 @@ use mathlib.Core.Bool.{false, not, ◌&&◌}
 use lib.Dec.{eqb}
 use lib.ListN.{get_or}
 use mathlib.Core.Logic.{⊎_elim}
-use Rattle.statement.proofs.Lowest.{some_at, none-at}
+use Rattle.statement.proofs.Lowest.{some_at, none_at}
 use Rattle.tree_read.proofs.Twins.{twin, itself, other}
 use Rattle.tree_read.proofs.has_twin.Statement.{statement}
 use Rattle.tree_read.proofs.has_twin.Tie as tie
@@ -63,7 +63,7 @@ returns-2 c =
     let l = c.before in
     let a = l.before.args in
     let cs = a.clusters.now in
-    sym (none-at (λ w. not (eqb a.v w) && eqb (get_or cs a.v 0) (get_or cs w 0)) a.m (λ j h. l.loop.invariant.1 j (omega arith)))
+    sym (none_at (λ w. not (eqb a.v w) && eqb (get_or cs a.v 0) (get_or cs w 0)) a.m (λ j h. l.loop.invariant.1 j (omega arith)))
 
 pub has-twin-spec : {M : Type 1} → statement M
 has-twin-spec =

@@ -7,9 +7,9 @@ use mathlib.Core.Logic.{⊎_elim}
 use lib.ListN.{length}
 use Rattle.statement.specs.Tree.{walk}
 use Rattle.tree_check.specs.Parts.{linked}
-use Rattle.tree_check.proofs.Walked.{walk-next}
+use Rattle.tree_check.proofs.Walked.{walk_next}
 use Rattle.tree_read.specs.Columns.{Marked}
-use Rattle.tree_read.proofs.Marking.{mark-none, mark-root, mark-kept, mark-put}
+use Rattle.tree_read.proofs.Marking.{mark_none, mark_root, mark_kept, mark_put}
 use Rattle.tree_read.proofs.mark.Statement.{statement}
 use Rattle.tree_read.proofs.mark.Tie as tie
 
@@ -22,7 +22,7 @@ decreases-loop links home group marked₀ m at₀ s₀ marked at s = suc m - s
 
 loop-holds : tie.Need-loop-init invariant-loop decreases-loop
 unfolding walk
-loop-holds c = (omega arith, refl, mark-none _ _ _ _ c.before.requires.0.1)
+loop-holds c = (omega arith, refl, mark_none _ _ _ _ c.before.requires.0.1)
 
 mul-if2 : tie.Need-overflow-mul-if2 invariant-loop decreases-loop
 mul-if2 c = search rules
@@ -63,10 +63,10 @@ loop-again c =
     let at = l.loop.invariant.1 in
     let marked = l.loop.invariant.2 in (
       omega arith,
-      walk-next (linked links) l.loop.s a.home l.loop.at _ at c.step-up.ensures,
-      ⊎_elim (λ w. rw w.2 (mark-put at marked w.0.taken (p.requires.1 _ w.0.taken) (omega arith) w.1.taken))
-          (⊎_elim (λ w. rw w.2 (mark-kept at marked w.0.taken (p.requires.1 _ w.0.taken) w.1.left))
-          (λ w. rw w.1 (mark-root at marked w.0.left)))
+      walk_next (linked links) l.loop.s a.home l.loop.at _ at c.step-up.ensures,
+      ⊎_elim (λ w. rw w.2 (mark_put at marked w.0.taken (p.requires.1 _ w.0.taken) (omega arith) w.1.taken))
+          (⊎_elim (λ w. rw w.2 (mark_kept at marked w.0.taken (p.requires.1 _ w.0.taken) w.1.left))
+          (λ w. rw w.1 (mark_root at marked w.0.left)))
           c.before.if1.branch,
     )
 

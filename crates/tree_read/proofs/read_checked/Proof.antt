@@ -4,11 +4,11 @@ use native.Mathlib.Omega.{arith}
 use borrow.Author.Rules.{rules}
 use mathlib.Core.Path.{refl, ◌∙◌, ap}
 use lib.ListN.{length, drop, length-drop, length-take}
-use Rattle.statement.specs.Bytes.{treeIn}
-use Rattle.statement.specs.Refusals.{Passed, AllPassed, edgeOff, twinOff}
-use Rattle.statement.proofs.Refused.{accepted-exactly}
-use Rattle.tree_check.specs.Parts.{firstChecks}
-use Rattle.tree_read.proofs.Replies.{Room, room_of, Read, bare-refused, none_bare, twin-refused, none-twin, accepted-reply}
+use Rattle.statement.specs.Bytes.{tree_in}
+use Rattle.statement.specs.Refusals.{Passed, AllPassed, edge_off, twin_off}
+use Rattle.statement.proofs.Refused.{accepted_exactly}
+use Rattle.tree_check.specs.Parts.{first_checks}
+use Rattle.tree_read.proofs.Replies.{Room, room_of, Read, bare_refused, none_bare, twin_refused, none_twin, accepted_reply}
 use Rattle.tree_read.proofs.read_checked.Statement.{statement}
 use Rattle.tree_read.proofs.read_checked.Tie as tie
 
@@ -26,8 +26,8 @@ abbrev past12 : tie.Else2 → tie.Else1
 past12 c = c.before.before.before
 
 -- what the checks passed say of the lengths
-passed : (c : tie.Start) → AllPassed (firstChecks c.args.n c.args.body.now)
-passed c = (accepted-exactly (firstChecks c.args.n c.args.body.now)).0 c.requires
+passed : (c : tie.Start) → AllPassed (first_checks c.args.n c.args.body.now)
+passed c = (accepted_exactly (first_checks c.args.n c.args.body.now)).0 c.requires
 
 room : (c : tie.After-vertex) → let a = (start c).args in Room a.n a.body.now c.vertex.result
 room c = let s = start c in room_of s.args.n s.args.body.now _ (passed s) c.vertex.ensures
@@ -76,10 +76,10 @@ returns : tie.Need-returns
 returns c =
     let k = c.before.before.before.before in
     let a = (start (read-m k)).args in
-    c.refused.ensures ∙ bare-refused a.n a.body.now _ _ (clusters-read k) _ c.before.before.lowest-empty.ensures c.before.if1.true
+    c.refused.ensures ∙ bare_refused a.n a.body.now _ _ (clusters-read k) _ c.before.before.lowest-empty.ensures c.before.if1.true
 
 -- past refusal 12
-full : (c : tie.Else1) → let a = (start (read-m (made c))).args in Passed (edgeOff a.n (treeIn a.n a.body.now))
+full : (c : tie.Else1) → let a = (start (read-m (made c))).args in Passed (edge_off a.n (tree_in a.n a.body.now))
 full c =
     let a = (start (read-m (made c))).args in
     none_bare a.n a.body.now _ _ (clusters-read (made c)) _ c.before.lowest-empty.ensures c.if1.false
@@ -95,14 +95,14 @@ returns-2 c =
     let f = c.before.before.before.before in
     let a = (start (read-m (made f))).args in
     c.refused2.ensures
-    ∙ twin-refused a.n a.body.now _ _ (clusters-read (made f)) _ c.before.before.lowest-twin.ensures (full f) c.before.if2.true
+    ∙ twin_refused a.n a.body.now _ _ (clusters-read (made f)) _ c.before.before.lowest-twin.ensures (full f) c.before.if2.true
 
 -- past refusal 13
-single : (c : tie.Else2) → let a = (start (read-m (made (past12 c)))).args in Passed (twinOff a.n (treeIn a.n a.body.now))
+single : (c : tie.Else2) → let a = (start (read-m (made (past12 c)))).args in Passed (twin_off a.n (tree_in a.n a.body.now))
 single c =
     let k = made (past12 c) in
     let a = (start (read-m k)).args in
-    none-twin a.n a.body.now _ _ (clusters-read k) _ c.before.lowest-twin.ensures c.if2.false
+    none_twin a.n a.body.now _ _ (clusters-read k) _ c.before.lowest-twin.ensures c.if2.false
 
 weights-in-requires : tie.Need-weights-in-requires
 weights-in-requires c κs = omega (arith, room (read-m (made (past12 c))))
@@ -122,7 +122,7 @@ returns-3 c =
     let s = w.before.before in
     let k = made (past12 s) in
     let a = (start (read-m k)).args in
-    accepted-reply a.n a.body.now _ _ (clusters-read k) (full (past12 s)) (single s) _ w.weights-of.result w.before.weights-in.ensures w.weights-of.ensures _ c.sorted.ensures
+    accepted_reply a.n a.body.now _ _ (clusters-read k) (full (past12 s)) (single s) _ w.weights-of.result w.before.weights-in.ensures w.weights-of.ensures _ c.sorted.ensures
 
 pub read-checked-spec : {M : Type 1} → statement M
 read-checked-spec =

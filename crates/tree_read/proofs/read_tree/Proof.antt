@@ -1,7 +1,7 @@
 -- Refused before the clusters, or read.
 use mathlib.Core.Logic.{⊎_elim}
-use Rattle.tree_check.specs.Parts.{firstChecks}
-use Rattle.tree_read.proofs.Replies.{first-refused, not-refused}
+use Rattle.tree_check.specs.Parts.{first_checks}
+use Rattle.tree_read.proofs.Replies.{first_refused, not_refused}
 use native.Mathlib.Omega.{arith}
 use borrow.Author.Rules.{rules}
 use mathlib.Core.Path.{sym, ◌∙◌}
@@ -20,12 +20,12 @@ refused-requires c κs = search rules
 returns : tie.Need-returns
 returns c =
     let a = c.before.before.before.before.before.before.args in
-    c.refused.ensures ∙ first-refused a.n a.body.now _ _ (sym c.before.before.before.before.check.ensures ∙ c.before.before.first.given.1)
+    c.refused.ensures ∙ first_refused a.n a.body.now _ _ (sym c.before.before.before.before.check.ensures ∙ c.before.before.first.given.1)
 
 read-checked-requires : tie.Need-read-checked-requires
 read-checked-requires c κs =
     let a = c.before.before.before.args in
-    not-refused (firstChecks a.n a.body.now) (λ number place e.
+    not_refused (first_checks a.n a.body.now) (λ number place e.
     let refused = c.before.check.ensures ∙ e in
     ⊎_elim (λ q. absurd (omega arith)) (λ q. absurd (omega arith)) (rw refused at c.match.keys2))
 

@@ -4,9 +4,9 @@ use native.Mathlib.Omega.{arith}
 use mathlib.Core.Path.{◌≡◌, sym, ◌∙◌}
 use lib.ListN.{length, get_or, length-set}
 use borrow.Author.Count.{below_none}
-use Rattle.statement.specs.Bytes.{fromBytes}
+use Rattle.statement.specs.Bytes.{from_bytes}
 use Rattle.bits.proofs.Stored.{stored}
-use Rattle.tree_body.proofs.Body.{word-at}
+use Rattle.tree_body.proofs.Body.{word_at_law}
 use Rattle.tree_read.specs.Columns.{Weights}
 use borrow.Author.Rules.{rules}
 use Rattle.tree_read.proofs.weights_of.Statement.{statement}
@@ -46,7 +46,7 @@ loop-again c =
     let room : l.v < length l.weights = omega (arith, l.invariant.1) in (
       omega arith,
       simp length-set l.invariant.1,
-      stored (λ u w. w ≡ get_or (fromBytes b) u 0) l.weights l.v c.word-at.result room (c.word-at.ensures ∙ sym (word-at b l.v (omega arith))) l.invariant.2,
+      stored (λ u w. w ≡ get_or (from_bytes b) u 0) l.weights l.v c.word_at_law.result room (c.word_at_law.ensures ∙ sym (word_at_law b l.v (omega arith))) l.invariant.2,
     )
 
 returns : tie.Need-returns invariant-loop decreases-loop

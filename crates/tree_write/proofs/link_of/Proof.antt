@@ -6,13 +6,13 @@ use mathlib.Core.Bool.{false}
 use lib.ListN.{get_or}
 use borrow.Author.Rules.{rules}
 use borrow.Author.Count.{below_none, below_more}
-use Rattle.statement.specs.Tree.{strictlyIn}
-use Rattle.tree_write.proofs.Searches.{link-found}
+use Rattle.statement.specs.Tree.{strictly_in}
+use Rattle.tree_write.proofs.Searches.{link_found}
 use Rattle.tree_write.proofs.link_of.Statement.{statement}
 use Rattle.tree_write.proofs.link_of.Tie as tie
 
 abbrev invariant-loop : tie.invariant-loop
-invariant-loop n clusters m i own j₀ j = (j ≤ m) × ((l : ℕ) → l < j → strictlyIn n (get_or clusters i 0) (get_or clusters l 0) ≡ false)
+invariant-loop n clusters m i own j₀ j = (j ≤ m) × ((l : ℕ) → l < j → strictly_in n (get_or clusters i 0) (get_or clusters l 0) ≡ false)
 
 abbrev decreases-loop : tie.decreases-loop
 decreases-loop n clusters m i own j₀ j = m - j
@@ -42,7 +42,7 @@ returns c =
     let a = s.args in (
       omega arith,
       λ rows these.
-          link-found rows a.clusters.now a.m these a.n a.i l.loop.j (omega arith)
+          link_found rows a.clusters.now a.m these a.n a.i l.loop.j (omega arith)
           (record { to = l.loop.invariant.0; before = l.loop.invariant.1; hit = λ h. sym (c.before.strictly-in.ensures a.n s.requires.2) ∙ c.if1.true }),
     )
 
@@ -64,7 +64,7 @@ returns-2 c =
     let a = l.before.before.args in (
       omega arith,
       λ rows these.
-          link-found rows a.clusters.now a.m these a.n a.i a.m (omega arith)
+          link_found rows a.clusters.now a.m these a.n a.i a.m (omega arith)
           (record { to = omega arith; before = λ j h. l.loop.invariant.1 j (omega arith); hit = λ h. absurd (omega arith) }),
     )
 

@@ -2,7 +2,7 @@
 use native.Mathlib.Omega.{arith}
 use lib.ListN.{length-set}
 use borrow.Author.Rules.{rules}
-use Rattle.tree_write.proofs.Stores.{four-stored}
+use Rattle.tree_write.proofs.Stores.{four_stored}
 use Rattle.tree_write.proofs.put_four.Statement.{statement}
 use Rattle.tree_write.proofs.put_four.Tie as tie
 
@@ -43,7 +43,7 @@ same_length : tie.Need-same-length
 same_length c = search rules
 
 returns : tie.Need-returns
-returns c = four-stored c.args.out.now c.args.at c.args.w c.requires
+returns c = four_stored c.args.out.now c.args.at c.args.w c.requires
 
 pub put-four-spec : {M : Type 1} → statement M
 put-four-spec =

@@ -6,11 +6,11 @@ use lib.ListN.{length, length-set}
 use borrow.Author.Rules.{rules}
 use Rattle.statement.specs.Rows.{rows_of}
 use Rattle.statement.specs.Tree.{tree_of}
-use Rattle.statement.proofs.WellFormed.{Roomy, rows-length}
+use Rattle.statement.proofs.WellFormed.{Roomy, rows_length}
 use Rattle.statement.proofs.Walks.{root_is}
 use Rattle.tree_write.proofs.GivenRows.{roomy}
-use Rattle.tree_write.proofs.Body.{tree-size}
-use Rattle.tree_write.proofs.Stores.{body-written}
+use Rattle.tree_write.proofs.Body.{tree_size}
+use Rattle.tree_write.proofs.Stores.{body_written_law}
 use Rattle.tree_write.proofs.put_tree.Statement.{statement}
 use Rattle.tree_write.proofs.put_tree.Tie as tie
 
@@ -56,8 +56,8 @@ returns c =
     let filled = c.before.before.before.before.before.before.put-vertices in
     let s = c.before.before.before.before.before.before.before.before.before in
     let rows = rows_of s.args.s in
-    body-written s.args.n (tree_of s.args.n rows) (tree-size s.args.n rows) s.args.s.rows
-    (root_is s.args.n rows ∙ rows-length s.args.s (room s)) s.args.out.now filled.new.1.1.0 weighed.new.1.1.0 s.requires.2
+    body_written_law s.args.n (tree_of s.args.n rows) (tree_size s.args.n rows) s.args.s.rows
+    (root_is s.args.n rows ∙ rows_length s.args.s (room s)) s.args.out.now filled.new.1.1.0 weighed.new.1.1.0 s.requires.2
     filled.ensures filled.auto.1.1.0 weighed.ensures weighed.auto.1.1.0
 
 pub put-tree-spec : {M : Type 1} → statement M

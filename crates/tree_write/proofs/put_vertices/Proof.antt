@@ -10,8 +10,8 @@ use Rattle.statement.specs.Rows.{Row, rows_of}
 use Rattle.statement.specs.Tree.{tree_of}
 use Rattle.statement.proofs.WellFormed.{Roomy}
 use Rattle.tree_write.specs.Vertices.{ClustersOf, vertices}
-use Rattle.tree_write.proofs.GivenRows.{roomy, clusters-of, cluster-small}
-use Rattle.tree_write.proofs.Stores.{one_more, vertices-length}
+use Rattle.tree_write.proofs.GivenRows.{roomy, clusters_of_law, cluster_small}
+use Rattle.tree_write.proofs.Stores.{one_more, vertices_length}
 use Rattle.tree_write.proofs.put_vertices.Statement.{statement}
 use Rattle.tree_write.proofs.put_vertices.Tie as tie
 
@@ -37,7 +37,7 @@ add-loop c = search rules
 vertex-at-requires : tie.Need-vertex-at-requires invariant-loop decreases-loop
 vertex-at-requires c κs =
     let s = c.before.before.before.before.before in
-    ((omega arith, (room s).rows, s.requires.0), λ j l. cluster-small s.args.s (room s) s.args.n j s.requires.1 l)
+    ((omega arith, (room s).rows, s.requires.0), λ j l. cluster_small s.args.s (room s) s.args.n j s.requires.1 l)
 
 add-out : tie.Need-overflow-add-out invariant-loop decreases-loop
 add-out c = search rules
@@ -59,7 +59,7 @@ loop-again c =
       length-set l.loop.out _ _ ∙ l.loop.invariant.1,
       λ rows these.
           one_more s.args.out.now (vertices (tree_of s.args.n rows)) l.loop.out 1 l.loop.i _ (omega arith)
-          (omega (arith, vertices-length s.args.n rows, these.count)) (l.loop.invariant.2 rows these) (c.vertex-at.ensures rows these),
+          (omega (arith, vertices_length s.args.n rows, these.count)) (l.loop.invariant.2 rows these) (c.vertex-at.ensures rows these),
     )
 
 same_length : tie.Need-same-length invariant-loop decreases-loop
@@ -70,7 +70,7 @@ returns c =
     let l = c.before in
     let s = l.before.before.before in
     let end : l.loop.i ≡ s.args.s.rows + s.args.n = omega arith in
-    l.loop.invariant.2 (rows_of s.args.s) (clusters-of s.args.s (room s))
+    l.loop.invariant.2 (rows_of s.args.s) (clusters_of_law s.args.s (room s))
     ∙ ap (paste s.args.out.now 1 (vertices (tree_of s.args.n (rows_of s.args.s)))) end
 
 pub put-vertices-spec : {M : Type 1} → statement M

@@ -7,7 +7,7 @@ use lib.Seq.{paste, paste-zero}
 use borrow.Author.Rules.{rules}
 use Rattle.statement.specs.Rows.{weights, rows_of}
 use Rattle.statement.specs.Bytes.{to_bytes}
-use Rattle.statement.proofs.WellFormed.{Roomy, weights-front}
+use Rattle.statement.proofs.WellFormed.{Roomy, weights_front}
 use Rattle.tree_write.proofs.Stores.{word_more}
 use Rattle.tree_write.proofs.put_weights.Statement.{statement}
 use Rattle.tree_write.proofs.put_weights.Tie as tie
@@ -50,7 +50,7 @@ loop-again c =
     let call = c.before.before.put_four in
     let l = c.before.before.before.before.before.before in
     let s = l.before.before in
-    let front = weights-front s.args.t1 (room s) in (
+    let front = weights_front s.args.t1 (room s) in (
       omega arith,
       call.auto.1.1.0 ∙ l.loop.invariant.1,
       word_more s.args.out.now (weights (rows_of s.args.t1)) l.loop.out call.new.1.1.0 s.args.at l.loop.i _ (omega arith)

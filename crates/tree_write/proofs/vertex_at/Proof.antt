@@ -2,7 +2,7 @@
 use native.Mathlib.Omega.{arith}
 use mathlib.Core.Path.{◌∙◌}
 use borrow.Author.Rules.{rules}
-use Rattle.tree_write.proofs.Stores.{vertex-link, vertex-home}
+use Rattle.tree_write.proofs.Stores.{vertex_link, vertex_home}
 use Rattle.tree_write.proofs.vertex_at.Statement.{statement}
 use Rattle.tree_write.proofs.vertex_at.Tie as tie
 
@@ -14,7 +14,7 @@ cast-result c = search rules
 
 returns : tie.Need-returns
 returns c = λ rows these.
-    let a = c.before.before.args in c.link-of.ensures.1 rows these ∙ vertex-link a.n rows a.i (omega (arith, these.count))
+    let a = c.before.before.args in c.link-of.ensures.1 rows these ∙ vertex_link a.n rows a.i (omega (arith, these.count))
 
 home-of-requires : tie.Need-home-of-requires
 home-of-requires c κs = search rules
@@ -24,7 +24,7 @@ cast-result-2 c = search rules
 
 returns-2 : tie.Need-returns-2
 returns-2 c = λ rows these.
-    let a = c.before.before.args in c.Home-of.ensures.1 rows these ∙ vertex-home a.n rows a.i _ (omega arith) (omega (arith, these.count))
+    let a = c.before.before.args in c.Home-of.ensures.1 rows these ∙ vertex_home a.n rows a.i _ (omega arith) (omega (arith, these.count))
 
 pub vertex-at-spec : {M : Type 1} → statement M
 vertex-at-spec = tie.close (tie.spec link-of-requires cast-result returns home-of-requires cast-result-2 returns-2)

@@ -5,10 +5,10 @@ use mathlib.Core.Path.{◌∙◌, ap}
 use borrow.Author.Rules.{rules}
 use lib.Dec.{eqb}
 use lib.ListN.{length, get_or}
-use Rattle.numerals.specs.Numerals.{startsIn}
-use Rattle.typed.specs.Typed.{valueFor}
-use Rattle.typed.proofs.Body.{few-taken, place_none, place_found, place-taken}
-use Rattle.typed.proofs.Entries.{square-small}
+use Rattle.numerals.specs.Numerals.{starts_in}
+use Rattle.typed.specs.Typed.{value_for}
+use Rattle.typed.proofs.Body.{few_taken, place_none, place_found, place_taken}
+use Rattle.typed.proofs.Entries.{square_small}
 use Rattle.typed.proofs.entry_place.Statement.{statement}
 use Rattle.typed.proofs.entry_place.Tie as tie
 
@@ -20,8 +20,8 @@ taxa-of-requires c κs = search rules
 
 few : (c : tie.After-taxa-of) → c.taxa-of.result * c.taxa-of.result ≤ 4096
 few c =
-    square-small c.taxa-of.result
-    (few-taken c.before.before.before.args.text.now c.before.check.result c.taxa-of.result c.before.check.ensures c.taxa-of.ensures)
+    square_small c.taxa-of.result
+    (few_taken c.before.before.before.args.text.now c.before.check.result c.taxa-of.result c.before.check.ensures c.taxa-of.ensures)
 
 mul-if1 : tie.Need-overflow-mul-if1
 mul-if1 c = omega (arith, few c)
@@ -42,7 +42,7 @@ value-for-requires : tie.Need-value-for-requires
 value-for-requires c κs =
     let n = c.before.before in
     let a = n.before.before.before.args in
-    let t = place-taken a.text.now n.before.check.result n.taxa-of.result n.before.check.ensures n.taxa-of.ensures a.e c.before.if1.false in
+    let t = place_taken a.text.now n.before.check.result n.taxa-of.result n.before.check.ensures n.taxa-of.ensures a.e c.before.if1.false in
     (t.two, t.few, c.before.if1.false)
 
 add-start-of : tie.Need-overflow-add-start-of
@@ -58,8 +58,8 @@ returns-2 c =
     let a = n.before.before.before.args in
     let k = n.taxa-of.result in
     c.start_of_lem.ensures
-    ∙ ap (λ (i : ℕ). get_or (startsIn a.text.now) (1 + i) (length a.text.now))
-    (c.before.value-for.ensures.0 ∙ ap (λ (v : ℕ). valueFor k (eqb v (k * k)) a.e) values.found.ensures)
+    ∙ ap (λ (i : ℕ). get_or (starts_in a.text.now) (1 + i) (length a.text.now))
+    (c.before.value-for.ensures.0 ∙ ap (λ (v : ℕ). value_for k (eqb v (k * k)) a.e) values.found.ensures)
     ∙ place_found a.text.now n.before.check.result k n.before.check.ensures n.taxa-of.ensures a.e values.before.if1.false
 
 pub entry-place-spec : {M : Type 1} → statement M

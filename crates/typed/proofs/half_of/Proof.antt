@@ -1,7 +1,7 @@
 -- `typed::half_of` meets its contract. Assumes nothing.
 use native.Mathlib.Omega.{arith}
 use borrow.Author.Rules.{rules}
-use Rattle.typed.proofs.Entries.{rows-small}
+use Rattle.typed.proofs.Entries.{rows_small}
 use Rattle.typed.proofs.half_of.Statement.{statement}
 use Rattle.typed.proofs.half_of.Tie as tie
 
@@ -12,7 +12,7 @@ sub-result : tie.Need-overflow-sub-result
 sub-result c = search rules
 
 mul-result : tie.Need-overflow-mul-result
-mul-result c = omega (arith, rows-small c.before.args.i c.before.requires)
+mul-result c = omega (arith, rows_small c.before.args.i c.before.requires)
 
 returns-2 : tie.Need-returns-2
 returns-2 c = search rules

@@ -3,8 +3,8 @@ use Prim.Native.Nat.{◌≤◌}
 use native.Mathlib.Omega.{arith}
 use mathlib.Core.Path.{◌∙◌}
 use borrow.Author.Rules.{rules}
-use Rattle.typed.proofs.Body.{some-taken, few-taken, refused, no_room, written}
-use Rattle.typed.proofs.Entries.{square-small}
+use Rattle.typed.proofs.Body.{some_taken, few_taken, refused, no_room, written}
+use Rattle.typed.proofs.Entries.{square_small}
 use Rattle.typed.proofs.write_body.Statement.{statement}
 use Rattle.typed.proofs.write_body.Tie as tie
 
@@ -21,13 +21,13 @@ returns c =
     refused a.text.now n.before.check.result n.taxa-of.result n.before.check.ensures n.taxa-of.ensures a.out.now c.if1.true
 
 few : (c : tie.After-taxa-of) → c.taxa-of.result ≤ 64
-few c = few-taken c.before.before.before.before.args.text.now c.before.check.result c.taxa-of.result c.before.check.ensures c.taxa-of.ensures
+few c = few_taken c.before.before.before.before.args.text.now c.before.check.result c.taxa-of.result c.before.check.ensures c.taxa-of.ensures
 
 mul-if2 : tie.Need-overflow-mul-if2
-mul-if2 c = omega (arith, square-small c.before.taxa-of.result (few c.before))
+mul-if2 c = omega (arith, square_small c.before.taxa-of.result (few c.before))
 
 mul-if2-2 : tie.Need-overflow-mul-if2-2
-mul-if2-2 c = omega (arith, square-small c.before.taxa-of.result (few c.before))
+mul-if2-2 c = omega (arith, square_small c.before.taxa-of.result (few c.before))
 
 returns-2 : tie.Need-returns-2
 returns-2 c =
@@ -39,7 +39,7 @@ returns-2 c =
 put-body-requires : tie.Need-put-body-requires
 put-body-requires c κs =
     let n = c.before.before.before in (
-      some-taken n.before.before.before.before.args.text.now n.before.check.result n.taxa-of.result n.before.check.ensures
+      some_taken n.before.before.before.before.args.text.now n.before.check.result n.taxa-of.result n.before.check.ensures
           n.taxa-of.ensures c.before.before.if1.false,
       c.before.if2.false,
     )

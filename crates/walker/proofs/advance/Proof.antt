@@ -38,8 +38,8 @@ use denote.Triple.Table.{entered, cited}
 use denote.Triple.Walked.{says, Stays, stay_none, walk_of, Goes-none, Walks, ends_at, walked, walk_Meets}
 use denote.Exit.{yes}
 use denote.Triple.Clauses.{ensured, lasts}
-use Rattle.statement.specs.Calls.{stepAt}
-use Rattle.walker.specs.Moved.{placeAfter}
+use Rattle.statement.specs.Calls.{step_at}
+use Rattle.walker.specs.Moved.{place_after}
 use Rattle.walker.specs.declared.Walker.{Walker}
 use Rattle.walker.proofs.Apart.{B, mach, Own, D, L, vd, passed, apart}
 use Rattle.walker.specs.contracts.Walker as T
@@ -65,7 +65,7 @@ module _ {M : Type 1} {𝓤 : Ura M} (𝓛 : Logic 𝓤) (mem : Memory → SProp
   open 𝓛 use {H}
 
   abbrev found : ℕ
-  found = placeAfter (stepAt d.file.now d.place) d.place
+  found = place_after (step_at d.file.now d.place) d.place
 
   abbrev Post : Val → SProp 𝓤
   Post = (walk_of 𝓛 advance.ended stayed (advance.clauses 𝓛 mem run)).post (((κ, tt), (q, tt), tt, (d, tt), ((mach κ d) ∷ [], tt)), tt)

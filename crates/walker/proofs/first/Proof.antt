@@ -37,7 +37,7 @@ use denote.Triple.Table.{entered, cited}
 use denote.Triple.Walked.{says, Stays, stay_none_slice, walk_of, Goes-none_slice, Walks, ends_at, walked, walk_Meets}
 use denote.Exit.{yes}
 use denote.Triple.Clauses.{ensured, lasts}
-use Rattle.statement.specs.Calls.{stepAt}
+use Rattle.statement.specs.Calls.{step_at}
 use Rattle.walker.specs.declared.Walker.{Walker}
 use Rattle.statement.specs.declared.Step.{Step}
 use Rattle.walker.specs.contracts.Walker as T
@@ -80,7 +80,7 @@ module _ {M : Type 1} {𝓤 : Ura M} (𝓛 : Logic 𝓤) (mem : Memory → SProp
   v = slice_val s.ref_ptr (length s.now)
 
   abbrev found : Step
-  found = stepAt s.now 0
+  found = step_at s.now 0
 
   -- the struct's type as a local of a body has it
   abbrev αᵉ : NamedLft
@@ -112,8 +112,8 @@ module _ {M : Type 1} {𝓤 : Ura M} (𝓛 : Logic 𝓤) (mem : Memory → SProp
   goes-next : (r : Walker) (u : Val) → ent 𝓤 (⋆ 𝓛 (‵ ((B (κ, tt)).own_val r (u ∷ [])) ∷ (‵ (flft κ q) ⊛ ‵ ftrue) ∷ [])) ((Next 𝓛 mem run).pre (to-next r u))
   goes-next r u = qed 𝓛 (‵ ((B (κ, tt)).own_val r (u ∷ [])) ∷ (‵ (flft κ q) ⊛ ‵ ftrue) ∷ []) ∵ nothing ! $ move ! (1 ∷ 0 ∷ []) $ fjoin ! $ move ! (1 ∷ 0 ∷ []) $ join ! $ frame ! $ done !
 
-  next-said : (r : Walker) (t : Step) → ent 𝓤 (ensured 𝓛 next.ended (next.clauses 𝓛 mem run) (κ, tt) (r, tt) tt t) (fact 𝓤 (t ≡ stepAt r.file.now r.place))
-  next-said r t = ex_e 𝓤 _ (λ ws. snd∗ 𝓤 (sem 𝓛 (lasts next.ended (κ, tt) (r, tt) ws)) (fact 𝓤 (t ≡ stepAt r.file.now r.place)))
+  next-said : (r : Walker) (t : Step) → ent 𝓤 (ensured 𝓛 next.ended (next.clauses 𝓛 mem run) (κ, tt) (r, tt) tt t) (fact 𝓤 (t ≡ step_at r.file.now r.place))
+  next-said r t = ex_e 𝓤 _ (λ ws. snd∗ 𝓤 (sem 𝓛 (lasts next.ended (κ, tt) (r, tt) ws)) (fact 𝓤 (t ≡ step_at r.file.now r.place)))
 
   exits : (t : Step) (u : Val) → t ≡ found → ent 𝓤 (⋆ 𝓛 (‵ ((S.the_row).own_val t (u ∷ [])) ∷ (‵ (flft κ q) ⊛ ‵ ftrue) ∷ ‵ Own ∷ [])) (Post u)
   exits t u e =
@@ -136,12 +136,12 @@ module _ {M : Type 1} {𝓤 : Ura M} (𝓛 : Logic 𝓤) (mem : Memory → SProp
         use2 𝓛 (raw ((Next 𝓛 mem run).pre (to-next r u))) (goes-next r u) $
         calls_at ! fm (Next 𝓛 mem run) known_next (to-next r u) (and_then ! (load ! (from ! (stop !)) (look ! 2 refl)) (no_more !)) (λ u'.
         use1 𝓛 (later (some (λ (t : Step). ((‵ (flft κ q) ⊛ ‵ ftrue) ⊛ ‵ ((S.the_row).own_val t (u' ∷ []))) ⊛ raw (ensured 𝓛 next.ended (next.clauses 𝓛 mem run) (κ, tt) (r, tt) tt t)))) (id⊢ 𝓤 _) $ await ! tt $ pick ! (λ t.
-        split ! $ move ! (1 ∷ []) $ use1 𝓛 (raw (fact 𝓤 (t ≡ stepAt r.file.now r.place))) (next-said r t) $ heard ! (t ≡ stepAt r.file.now r.place) (λ e'. split ! $ move ! (1 ∷ []) $
+        split ! $ move ! (1 ∷ []) $ use1 𝓛 (raw (fact 𝓤 (t ≡ step_at r.file.now r.place))) (next-said r t) $ heard ! (t ≡ step_at r.file.now r.place) (λ e'. split ! $ move ! (1 ∷ []) $
         -- [the result; the token; what s owns; _2; …; _1; …; room for _0; …]
         peeks ! S.the_row (Is S.the_row) (shows 𝓛 S.the_row) t (u' ∷ []) (λ is'.
         land ! (from ! (stop !)) (init ! 7 refl ((EL.lawful S.the_type S'.the_laws 𝓛 tt).typed t _ is').0) $
         returns ! (look ! 7 refl) $ forget ! 3 refl $ forget ! 5 refl $ forget ! 7 refl $ move ! (7 ∷ 8 ∷ []) $ free1 ! $ move ! (5 ∷ 6 ∷ []) $ free1 ! $ move ! (3 ∷ 4 ∷ []) $ free1 ! $ free0 ! $
-        by ! (exits t u' (e' ∙ (ap (λ (x : Bor (List ℕ)). stepAt x.now r.place) e.0 ∙ ap (stepAt s.now) e.1))))))))))))))
+        by ! (exits t u' (e' ∙ (ap (λ (x : Bor (List ℕ)). step_at x.now r.place) e.0 ∙ ap (step_at s.now) e.1))))))))))))))
 
 module _ {M : Type 1} {𝓤 : Ura M} (𝓛 : Logic 𝓤) (mem : Memory → SProp 𝓤) (run : Routine → Fun 𝓤) where
   open 𝓛 use {H}

@@ -35,7 +35,7 @@ use denote.Triple.Table.{entered, cited}
 use denote.Triple.Walked.{says, Stays, stay_none, walk_of, Goes-none, Walks, ends_at, walked, walk_Meets}
 use denote.Exit.{yes}
 use denote.Triple.Clauses.{ensured, lasts}
-use Rattle.statement.specs.Calls.{stepAt}
+use Rattle.statement.specs.Calls.{step_at}
 use Rattle.walker.specs.declared.Walker.{Walker}
 use Rattle.statement.specs.declared.Step.{Step}
 use Rattle.walker.proofs.Apart.{B, mach, Own, passed, apart}
@@ -64,7 +64,7 @@ module _ {M : Type 1} {𝓤 : Ura M} (𝓛 : Logic 𝓤) (mem : Memory → SProp
   open 𝓛 use {H}
 
   abbrev found : Step
-  found = stepAt d.file.now d.place
+  found = step_at d.file.now d.place
 
   abbrev Post : Val → SProp 𝓤
   Post = (walk_of 𝓛 next.ended stayed (next.clauses 𝓛 mem run)).post (((κ, tt), (q, tt), tt, (d, tt), ((mach κ d) ∷ [], tt)), tt)

@@ -2,15 +2,15 @@
 use mathlib.Core.Path.{◌≡◌, sym, ◌∙◌, ap}
 use borrow.Author.Rules.{rules}
 use Rattle.statement.specs.declared.Step.{Step}
-use Rattle.statement.specs.Calls.{stepAt}
-use Rattle.walker.specs.Moved.{placeAfter}
+use Rattle.statement.specs.Calls.{step_at}
+use Rattle.walker.specs.Moved.{place_after}
 use Rattle.walker.proofs.place_after.Statement.{statement}
 use Rattle.walker.proofs.place_after.Tie as tie
 
 -- the place after the step that was said
 by-step : (c : tie.After-step-at) {s : Step} → s ≡ c.step-at.result → let a = c.before.before.args in
-    placeAfter s a.place ≡ placeAfter (stepAt a.file.now a.place) a.place
-by-step c e = ap (λ (s : Step). placeAfter s c.before.before.args.place) (e ∙ c.step-at.ensures)
+    place_after s a.place ≡ place_after (step_at a.file.now a.place) a.place
+by-step c e = ap (λ (s : Step). place_after s c.before.before.args.place) (e ∙ c.step-at.ensures)
 
 step-at-requires : tie.Need-step-at-requires
 step-at-requires c κs = search rules

@@ -6,9 +6,9 @@ use lib.ListN.{length, take, drop}
 use borrow.Author.Rules.{rules}
 use Rattle.statement.specs.declared.Step.TheVariants.{Found}
 use Rattle.statement.specs.Refusals.{number_of}
-use Rattle.statement.specs.Calls.{findRecord}
-use Rattle.record_find.proofs.Found.{found-exactly, found-by-number}
-use Rattle.walker.proofs.Stepping.{step_end, step-refused, step-found}
+use Rattle.statement.specs.Calls.{find_record}
+use Rattle.record_find.proofs.Found.{found_exactly, found_by_number}
+use Rattle.walker.proofs.Stepping.{step_end, step_refused, step_found}
 use Rattle.walker.proofs.step_at.Statement.{statement}
 use Rattle.walker.proofs.step_at.Tie as tie
 
@@ -22,10 +22,10 @@ placed c = c.before.before.before.before.before.args.place
 abbrev rest : tie.After-number-of → List ℕ
 rest c = take (length (given c) - placed c) (drop (placed c) (given c))
 
-said : (c : tie.After-number-of) → c.number_of_lem.result ≡ number_of (findRecord (rest c))
+said : (c : tie.After-number-of) → c.number_of_lem.result ≡ number_of (find_record (rest c))
 said c = c.number_of_lem.ensures ∙ ap number_of c.before.find-record.ensures
 
-number : (c : tie.Else2) → number_of (findRecord (rest c.before)) ≡ 0
+number : (c : tie.Else2) → number_of (find_record (rest c.before)) ≡ 0
 number c = sym (said c.before) ∙ c.if2.false
 
 returns : tie.Need-returns
@@ -47,10 +47,10 @@ number-of-requires : tie.Need-number-of-requires
 number-of-requires c κs = search rules
 
 returns-2 : tie.Need-returns-2
-returns-2 c = step-refused (given c.before) (placed c.before) c.before.before.before.before.if1.false _ refl _ (said c.before) c.if2.true
+returns-2 c = step_refused (given c.before) (placed c.before) c.before.before.before.before.if1.false _ refl _ (said c.before) c.if2.true
 
 length-in-requires : tie.Need-length-in-requires
-length-in-requires c κs = ((found-exactly _).0 (found-by-number _ (number c))).header
+length-in-requires c κs = ((found_exactly _).0 (found_by_number _ (number c))).header
 
 add-t6 : tie.Need-overflow-add-t6
 add-t6 c = search rules
@@ -66,7 +66,7 @@ returns-3 c =
     let asked = c.before.before.before in
     let len = c.before.length-in in
     ap (λ (whole : ℕ). Found (placed asked + 8) len.result (placed asked + whole)) c.record-length.ensures
-    ∙ step-found (given asked) (placed asked) asked.before.before.before.if1.false _ refl _ (number c.before.before) len.ensures.0
+    ∙ step_found (given asked) (placed asked) asked.before.before.before.if1.false _ refl _ (number c.before.before) len.ensures.0
 
 pub step-at-spec : {M : Type 1} → statement M
 step-at-spec =

@@ -4,13 +4,13 @@ use native.Mathlib.Omega.{arith}
 use mathlib.Core.Path.{◌≡◌, refl}
 use lib.ListN.{length, take, length-set}
 use borrow.Author.Rules.{rules}
-use Rattle.statement.specs.Bytes.{fromBytes}
-use Rattle.words.proofs.Laws.{word_more, words-all}
+use Rattle.statement.specs.Bytes.{from_bytes}
+use Rattle.words.proofs.Laws.{word_more, words_all}
 use Rattle.words.proofs.read_words.Statement.{statement}
 use Rattle.words.proofs.read_words.Tie as tie
 
 abbrev invariant-loop : tie.invariant-loop
-invariant-loop count body words₀ e₀ words e = (e ≤ count) × (length words ≡ 4096) × (take e words ≡ take e (fromBytes body))
+invariant-loop count body words₀ e₀ words e = (e ≤ count) × (length words ≡ 4096) × (take e words ≡ take e (from_bytes body))
 
 abbrev decreases-loop : tie.decreases-loop
 decreases-loop count body words₀ e₀ words e = count - e
@@ -51,7 +51,7 @@ returns c =
     let at = c.before in
     let s = at.before.before in (
       at.loop.invariant.1,
-      words-all s.args.body.now s.args.count s.requires.1 at.loop.words at.loop.e (omega arith) at.loop.invariant.2,
+      words_all s.args.body.now s.args.count s.requires.1 at.loop.words at.loop.e (omega arith) at.loop.invariant.2,
     )
 
 pub read-words-spec : {M : Type 1} → statement M
