@@ -40,6 +40,7 @@ weight_append [] ys c h = refl
 weight_append (x ∷ xs) ys c h = rw (ne_eqb x.cluster c (λ e. h (inl (sym e)))) (weight_append xs ys c (λ m. h (inr m)))
 
 weight_in_first : (xs ys : List Row) (c : ℕ) → Listed c xs → weight_in (xs ++ ys) c ≡ weight_in xs c
+weight_in_first [] ys c m = elim m [ ]
 weight_in_first (x ∷ xs) ys c m = go (eqb x.cluster c) refl m (λ n. weight_in_first xs ys c n)
   where
     go : (b : Bool) → eqb x.cluster c ≡ b → (c ≡ x.cluster) ⊎ Listed c xs → (Listed c xs → weight_in (xs ++ ys) c ≡ weight_in xs c)
@@ -126,6 +127,7 @@ unfolding keep_one
 weight_keep_one v cs c = go (keep_if (λ c. ltb 0 (v c)) cs)
   where
     go : (xs : List ℕ) → Mem c xs → weight_in (map (λ c. row c (v c)) xs) c ≡ v c
+    go [] m = elim m [ ]
     go (x ∷ xs) m = at (eqb x c) refl m (λ n. go xs n)
       where
         at : (b : Bool) → eqb x c ≡ b → (c ≡ x) ⊎ Mem c xs → (Mem c xs → weight_in (map (λ c. row c (v c)) xs) c ≡ v c) → cond b (v x) (weight_in (map (λ c. row c (v c)) xs) c) ≡ v c
@@ -142,6 +144,7 @@ weights_keep_one v cs w m =
     (c, p.0, ltb→lt 0 (v c) p.1, e)
   where
     go : (xs : List ℕ) → Mem w (weights (map (λ c. row c (v c)) xs)) → (c : ℕ) × Mem c xs × (w ≡ v c)
+    go [] x' = elim x' [ ]
     go (x ∷ xs) (inl e) = (x, inl refl, e)
     go (x ∷ xs) (inr n) = let (c, q, e) = go xs n in (c, inr q, e)
 
@@ -202,6 +205,7 @@ abbrev pub FullRows : Rule → ℕ → List Row → Type 0
 FullRows r k rows = Weighed r k (clusters rows) (weight_in rows)
 
 pub weight_listed : (rows : List Row) (c : ℕ) → Listed c rows → Mem (weight_in rows c) (weights rows)
+weight_listed [] c m = elim m [ ]
 weight_listed (r ∷ rs) c m = go (eqb r.cluster c) refl m (λ n. weight_listed rs c n)
   where
     go : (b : Bool) → eqb r.cluster c ≡ b → (c ≡ r.cluster) ⊎ Listed c rs → (Listed c rs → Mem (weight_in rs c) (weights rs))

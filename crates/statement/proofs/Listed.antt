@@ -38,6 +38,7 @@ asc_keep p lo hi (x ∷ xs) h = go (p x) (asc_keep p (suc x) hi xs h.1)
     go false ih = asc_lower lo (suc x) hi (keep_if p xs) (omega (arith, h.0)) ih
 
 pub asc_mem : (lo hi : ℕ) (xs : List ℕ) → Ascending lo hi xs → (c : ℕ) → Mem c xs → (lo ≤ c) × (c < hi)
+asc_mem lo hi [] h c x'' = elim x'' [ ]
 asc_mem lo hi (x ∷ xs) h c (inl e) = (omega (arith, h.0), omega (arith, asc_le (suc x) hi xs h.1))
 asc_mem lo hi (x ∷ xs) h c (inr m) = let p = asc_mem (suc x) hi xs h.1 c m in (omega (arith, h.0), p.1)
 
@@ -54,6 +55,7 @@ mem_append c xs ys = (there xs, back xs)
     there (z ∷ zs) (inr m) = elim (there zs m) [ inl a ↦ inl (inr a) | inr b ↦ inr b ]
 
     back : (zs : List ℕ) → Mem c zs ⊎ Mem c ys → Mem c (zs ++ ys)
+    back [] (inl x'') = elim x'' [ ]
     back [] (inr m) = m
     back (z ∷ zs) (inl (inl e)) = inl e
     back (z ∷ zs) (inl (inr m)) = inr (back zs (inl m))
@@ -63,15 +65,18 @@ pub mem_map : (m c : ℕ) (xs : List ℕ) → Mem c (map (λ d. m + d) xs) ↔ (
 mem_map m c xs = (there xs, back xs)
   where
     there : (zs : List ℕ) → Mem c (map (λ d. m + d) zs) → (d : ℕ) × Mem d zs × (c ≡ m + d)
+    there [] x' = elim x' [ ]
     there (z ∷ zs) (inl e) = (z, inl refl, e)
     there (z ∷ zs) (inr n) = let p = there zs n in (p.0, inr p.1, p.2)
 
     back : (zs : List ℕ) → ((d : ℕ) × Mem d zs × (c ≡ m + d)) → Mem c (map (λ d. m + d) zs)
+    back [] (d, m, q) = elim m [ ]
     back (z ∷ zs) (d, inl e, q) = inl (q ∙ ap (λ (n : ℕ). m + n) e)
     back (z ∷ zs) (d, inr n, q) = inr (back zs (d, n, q))
 
 pub mem_keep_of : (p : ℕ → Bool) (c : ℕ) (xs : List ℕ) → Mem c (keep_if p xs) → Mem c xs × T (p c)
 unfolding keep_if
+mem_keep_of p c [] m = elim m [ ]
 mem_keep_of p c (x ∷ xs) m = go (p x) refl m (λ n. mem_keep_of p c xs n)
   where
     go : (s : Bool) → p x ≡ s → Mem c (cond s (x ∷ keep_if p xs) (keep_if p xs)) → (Mem c (keep_if p xs) → Mem c xs × T (p c)) → ((c ≡ x) ⊎ Mem c xs) × T (p c)
@@ -81,6 +86,7 @@ mem_keep_of p c (x ∷ xs) m = go (p x) refl m (λ n. mem_keep_of p c xs n)
 
 pub mem_keep : (p : ℕ → Bool) (c : ℕ) (xs : List ℕ) → Mem c xs → T (p c) → Mem c (keep_if p xs)
 unfolding keep_if
+mem_keep p c [] m t = elim m [ ]
 mem_keep p c (x ∷ xs) m t = go (p x) refl m (λ n. mem_keep p c xs n t)
   where
     go : (s : Bool) → p x ≡ s → (c ≡ x) ⊎ Mem c xs → (Mem c xs → Mem c (keep_if p xs)) → Mem c (cond s (x ∷ keep_if p xs) (keep_if p xs))

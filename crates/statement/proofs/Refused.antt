@@ -57,6 +57,7 @@ fails_at : (c : Check) → somewhere c.bad c.places ≡ true → Fails c c.numbe
 fails_at c e = fails c (lowest c.bad c.places) refl (ltb-true (lowest c.bad c.places) c.places e)
 
 pub given_refused : (checks : List Check) (number place : ℕ) → Given checks number place → outcome_of checks ≡ Refused number place
+given_refused [] number place x' = elim x' [ ]
 given_refused (c ∷ cs) number place (inl f) =
     refused_at c cs place (sym (lowest_at c.bad c.places place f.within f.bad f.lowest)) f.within
     ∙ ap (λ (m : ℕ). Refused m place) f.named
@@ -130,6 +131,7 @@ Each P [] = Unit {0}
 Each P (c ∷ cs) = P c × Each P cs
 
 given_each : (P : Check → Type 0) (checks : List Check) (number place : ℕ) → Each P checks → Given checks number place → (c : Check) × P c × Fails c number place
+given_each P [] number place _ x3 = elim x3 [ ]
 given_each P (c ∷ cs) number place (p, ps) (inl f) = (c, p, f)
 given_each P (c ∷ cs) number place (p, ps) (inr (q, g)) = given_each P cs number place ps g
 

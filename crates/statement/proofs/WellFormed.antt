@@ -137,6 +137,7 @@ module _ {m : ℕ} {xs ys : List ℕ} (front : Front m xs ys) where
       (i, b, e ∙ front.at i b)
     where
       mem_at : (zs : List ℕ) → Mem c zs → (i : ℕ) × (i < length zs) × (c ≡ get_or zs i 0)
+      mem_at [] x' = elim x' [ ]
       mem_at (z ∷ zs) (inl e) = (0, omega arith, e)
       mem_at (z ∷ zs) (inr h) = let (i, l, e) = mem_at zs h in (suc i, omega arith, e)
 
