@@ -1,5 +1,7 @@
 // Groups of taxa as the bits of a number: what the crates that try splits ask of one.
 // Document 01, "Scores and splits": Row. Document 02 §7: groups of one.
+#![tactic(auto)]
+
 ghost use Rattle.std.specs.Prelude.{◌≡◌, cond, not, ◌&&◌, ◌||◌, ◌+◌, ◌^◌, ◌≤◌, ◌<◌, eqb, length};
 ghost use Rattle.statement.specs.Cluster.{bit};
 ghost use Rattle.statement.specs.Growing.{alone};

@@ -1,5 +1,7 @@
 // Brute force from the definitions, for tests: every split of up to 7 taxa and every four of it, sharing no code with growth; the full answer, and one
 // taxon more of a list from elsewhere (document 02 §7). Scores are kept above zero by adding 10,000,000,000 to each.
+#![tactic(auto)]
+
 ghost use Rattle.std.specs.Prelude.{◌≡◌, true, ◌+◌, ◌<◌, ◌≤◌};
 
 use statement::Splits;

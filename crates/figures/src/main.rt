@@ -1,6 +1,8 @@
 // Document 01's figures that are run and not proved, a real matrix with its list from an independent program, and a differential run: grown lists
 // of small pseudo-random matrices and tables, uncut and cut into small allowances, and lists carried to another matrix, against brute force over every
 // split from the definition.
+#![tactic(auto)]
+
 ghost use Rattle.std.specs.Prelude.{◌<◌, ◌≤◌};
 
 use statement::{Growth, Splits};

@@ -1,5 +1,6 @@
 // The program `from_newick`: a Newick text on standard input, the number of its taxa as the argument; the record of its tree on standard output, or one
 // line that says what is wrong.
+#![tactic(auto)]
 
 // Whether standard input goes on.
 fn more() -> bool {

@@ -1,5 +1,7 @@
 // Growth of a list, a taxon at a time: one piece of code for both kinds of source. Document 01, "Growing and the allowance".
 // A source comes as its kind with both slices, of which one is used: kind 1 has a matrix in `entries`, any other a table in `bytes`.
+#![tactic(auto)]
+
 ghost use Rattle.std.specs.Prelude.{◌≡◌, [], ◌∷◌, ℕ, suc, ◌+◌, ◌-◌, ◌^◌, ◌<◌, ◌≤◌, length, get_or};
 ghost use Rattle.statement.specs.Matrix.{AcceptedMatrix, distance};
 ghost use Rattle.statement.specs.Rows.{row, clusters, list_in, rows_of, Ascending, WellFormed};

@@ -1,4 +1,6 @@
 // The main job: a record of a matrix or a table, found, read and run. Document 01, "Figures to check against": the program `splits`.
+#![tactic(auto)]
+
 ghost use Rattle.std.specs.Prelude.{◌≡◌, ◌*◌, ◌≤◌, length};
 ghost use Rattle.statement.specs.Bytes.{from_bytes};
 ghost use Rattle.statement.specs.Calls.{run_matrix, run_record};

@@ -1,4 +1,6 @@
 // Finding one's way in a file that a test reads.
+#![tactic(auto)]
+
 ghost use Rattle.std.specs.Prelude.{◌≡◌, ◌+◌, ◌≤◌, min, length};
 
 // The next place of this byte from a place on; the end where there is none.

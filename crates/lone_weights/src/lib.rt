@@ -1,5 +1,7 @@
 // The weights of the splits of one taxon by itself, kept from taxon to taxon within a call: worked out once, then lowered by each newcomer's fours.
 // Document 02 §3 and §7.
+#![tactic(auto)]
+
 ghost use Rattle.std.specs.Prelude.{◌+◌, ◌≤◌, ◌<◌, ◌≡◌, length};
 ghost use Rattle.statement.specs.Matrix.{AcceptedMatrix, distance, weight_limit};
 ghost use Rattle.lone_weights.specs.Lone.{Lone, Kept};

@@ -1,5 +1,7 @@
 // A distance matrix, n by n, row by row: its checks, and the signed score of a pairing with the weight that it lowers.
 // Document 01, "Scores and splits" and "Refusal numbers".
+#![tactic(auto)]
+
 ghost use Rattle.std.specs.Prelude.{◌+◌, ◌*◌, ◌≤◌, ◌<◌, min, ◌≡◌, pos};
 ghost use Rattle.std.proofs.Math.IntN.{sub_ℕ};
 ghost use Rattle.std.specs.Int.Signed.{lt_z};

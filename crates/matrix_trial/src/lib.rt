@@ -1,5 +1,7 @@
 // The trial of a split on a matrix, by its fours that include one taxon: over all fours where a taxon is alone in its group, from the kept weights;
 // else in separated form, given up at the first score that is not above zero. Document 01, "Growing and the allowance"; document 02 §3 and §7.
+#![tactic(auto)]
+
 ghost use Rattle.std.specs.Prelude.{ℕ, ◌+◌, ◌^◌, ◌≤◌, ◌<◌, min, ◌≡◌, ◌≢◌, get_or};
 ghost use Rattle.std.proofs.Math.IntN.{sub_ℕ};
 ghost use Rattle.statement.specs.Matrix.{AcceptedMatrix, distance};

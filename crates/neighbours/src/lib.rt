@@ -1,5 +1,7 @@
 // The nearest neighbour of a taxon, and the fours of a split that hold it: a look whether one of them ends a trial.
 // Document 02 §3 and §7.
+#![tactic(auto)]
+
 ghost use Rattle.std.specs.Prelude.{◌+◌, ◌≤◌, ◌<◌, ◌≡◌, ◌≢◌, true, false};
 ghost use Rattle.statement.specs.Cluster.{bit};
 ghost use Rattle.statement.specs.Matrix.{AcceptedMatrix, distance};

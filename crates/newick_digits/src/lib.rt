@@ -1,4 +1,6 @@
 // A byte, and a number in decimal without leading zeros, written as far as there is room for them; the place past them in any case.
+#![tactic(auto)]
+
 ghost use Rattle.std.specs.Prelude.{◌≡◌, ◌+◌, ◌≤◌, ◌<◌, length, set};
 ghost use Rattle.std.proofs.lemmas.List.Edits.{sets};
 ghost use Rattle.statement.specs.Decimal.{decimal};

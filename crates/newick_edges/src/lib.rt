@@ -1,5 +1,7 @@
 // Taxa met in a sentence's text, the side of an edge without taxon 0, and the table of the edges that are not dropped, each cluster once.
 // Document 02, §2.
+#![tactic(auto)]
+
 ghost use Rattle.std.specs.Prelude.{◌≡◌, List, ℕ, ◌-◌, ◌^◌, ◌≤◌, eqb, get_or};
 ghost use Rattle.statement.specs.Lowest.{lowest};
 ghost use Rattle.newick_edges.specs.Marks.{first_of, fresh as fresh·of, meet as meet·of, mask_of, side as side·of};

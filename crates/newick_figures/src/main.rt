@@ -1,5 +1,7 @@
 // Newick texts, read, and the text that is written of what was read. A line of data/texts0, texts1, .. is a case: the number of taxa, a space, the text.
 // The files in data/ and the expected output are made by tests/make_vectors.py from the documents alone.
+#![tactic(auto)]
+
 ghost use Rattle.std.specs.Prelude.{◌≤◌};
 
 use lines::{behind, find};

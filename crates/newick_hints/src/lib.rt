@@ -1,5 +1,7 @@
 // What a reader of a Newick text can be told about a place in it: the byte before, how many brackets are open there, how many branches the root has,
 // which taxon is missing. For messages only.
+#![tactic(auto)]
+
 ghost use Rattle.std.specs.Prelude.{◌≡◌, ◌-◌, ◌≤◌, length, get_or};
 
 use numerals::{byte_at, is_digit, number_at};

@@ -1,4 +1,6 @@
 // A Newick text of n taxa to the record of its tree, or to one line that says what is wrong with it. Document 02, §2.
+#![tactic(auto)]
+
 ghost use Rattle.std.specs.Prelude.{◌≡◌, ◌⊎◌, ◌≤◌, length, take, get_or};
 ghost use Rattle.io.specs.Counts.{IsPrefixLen};
 ghost use Rattle.statement.specs.declared.Outcome.TheVariants.{Done};

@@ -1,4 +1,6 @@
 // A record's list as Newick text on standard output: a matrix or a table is run, a tree is read. Document 02, §2.
+#![tactic(auto)]
+
 ghost use Rattle.std.specs.Prelude.{◌≡◌};
 ghost use Rattle.newick_out.specs.Lists.{list_in, without_trials};
 

@@ -1,4 +1,6 @@
 // A Newick text read: its checks, and the list of its rows. Document 02, §2.
+#![tactic(auto)]
+
 ghost use Rattle.std.specs.Prelude.{◌≡◌, not, List, ℕ, ◌≤◌, eqb, get_or};
 ghost use Rattle.statement.specs.Lowest.{lowest};
 ghost use Rattle.newick_text.specs.Automaton.{run, start, good};

@@ -1,4 +1,6 @@
 // Why a Newick text is refused, in plain words: document 02's 19, 20, 14, 12 and 13, by the byte at the refusal's place and what stands before it.
+#![tactic(auto)]
+
 use newick_hints::{byte_before, level_at, lowest_missing, semicolon};
 use numerals::{byte_at, is_digit, is_space, number_at};
 use print::{number, say};

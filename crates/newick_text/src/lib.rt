@@ -1,5 +1,7 @@
 // Newick text recognised, by recursion on children with the brackets that may still be opened falling: the place past a sentence, or the first bad byte.
 // Document 02, §2.
+#![tactic(auto)]
+
 ghost use Rattle.std.specs.Prelude.{◌≡◌, ℕ, suc, ◌+◌, ◌-◌, ◌≤◌, ◌<◌, length, drop, get_or};
 ghost use Rattle.newick_text.specs.Automaton.{Use, State, run, ran, Onward, place_of, Colon, start, whole, next, first, want, over, some, close};
 ghost use Rattle.newick_text.specs.Automaton.{taxon as Auto·taxon, weight as Auto·weight};

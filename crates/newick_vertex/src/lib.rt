@@ -1,4 +1,6 @@
 // The Newick text of a vertex, from the arrays that hold its tree, written as far as there is room for it. Document 02, §2.
+#![tactic(auto)]
+
 ghost use Rattle.std.specs.Prelude.{◌≡◌, [], ◌∷◌, map, ◌+◌, ◌≤◌, eqb, length};
 ghost use Rattle.std.proofs.lemmas.List.Edits.{sets};
 ghost use Rattle.statement.specs.Decimal.{decimal};

@@ -1,4 +1,6 @@
 // The walk over a sentence's text: which taxa have been met, and the edges that are not dropped. One pass, fixed memory. Document 02, §2.
+#![tactic(auto)]
+
 ghost use Rattle.std.specs.Prelude.{◌≡◌, List, ℕ, ◌+◌, ◌<◌, ◌≤◌, min, drop};
 ghost use Rattle.statement.specs.Decimal.{on_from, span};
 ghost use Rattle.numerals.specs.Numerals.{number_limit};

@@ -1,4 +1,6 @@
 // The Newick text of a list with k = n, written into a lent slice of its exact length. Document 02, §2.
+#![tactic(auto)]
+
 ghost use Rattle.std.specs.Prelude.{◌≡◌, List, ℕ, ◌^◌, ◌<◌, ◌≤◌, get_or};
 ghost use Rattle.std.proofs.lemmas.List.Edits.{sets};
 ghost use Rattle.statement.specs.Rows.{Row, rows_of, WellFormed};

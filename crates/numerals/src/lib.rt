@@ -1,5 +1,7 @@
 // Whole numbers in a text, in decimal with spaces between them: what is wrong with the bytes, how many numbers there are, where each starts, its
 // value, and the line and column of a place.
+#![tactic(auto)]
+
 ghost use Rattle.std.specs.Prelude.{◌+◌, ◌*◌, ◌-◌, ◌≤◌, ◌<◌, min, ◌≡◌, true, length, get_or, drop};
 ghost use Rattle.statement.specs.Lowest.{lowest};
 ghost use Rattle.statement.specs.Decimal.{digit, span};

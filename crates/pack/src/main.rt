@@ -1,4 +1,5 @@
 // The program `pack`: typed numbers on standard input, the record of their matrix on standard output, or one line that says what is wrong and where.
+#![tactic(auto)]
 
 // Whether standard input goes on.
 fn more() -> bool {

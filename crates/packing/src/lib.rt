@@ -1,5 +1,7 @@
 // For people who have typed numbers and no records: a text of whole numbers, n and then a full matrix or its lower half, gives the matrix's record on
 // standard output; or one line that says what is wrong, with its line and column, both from 1.
+#![tactic(auto)]
+
 ghost use Rattle.std.specs.Prelude.{◌*◌, ◌≡◌, length};
 ghost use Rattle.statement.specs.Bytes.{to_bytes};
 ghost use Rattle.statement.specs.Calls.{write_record, record_written};

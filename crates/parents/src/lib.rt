@@ -1,5 +1,7 @@
 // What the next taxon extends on a matrix: a list's rows with every trivial split put in, listed or not. Document 02 §7.
 // The trivial splits' clusters ascend, so one pass over the rows puts them all in.
+#![tactic(auto)]
+
 ghost use Rattle.std.specs.Prelude.{◌≡◌, ◌+◌, ◌≤◌, ◌<◌, length, get_or, drop};
 ghost use Rattle.statement.specs.Rows.{row, list_in, rows_of, list_of};
 ghost use Rattle.statement.specs.Growing.{put_in, with_trivial};

@@ -1,5 +1,7 @@
 // Path sums: the sum of weights on the path between the homes of two taxa, for each two, in a lent slice of n by n, row by row.
 // Each is summed by rows: the edges on the path are the rows that part the two taxa. Document 01, "The tree".
+#![tactic(auto)]
+
 ghost use Rattle.std.specs.Prelude.{◌≡◌, ℕ, ◌*◌, ◌<◌, ◌≤◌, length};
 ghost use Rattle.statement.specs.Matrix.{weight_limit};
 ghost use Rattle.statement.specs.Rows.{row, weights, Mem, list_in, rows_of, WellFormed};

@@ -1,5 +1,7 @@
 // What programs print. No contract can say what is written to standard output: these are proved safe and ending, and programs that use them are
 // compared with stored output.
+#![tactic(auto)]
+
 use statement::{Growth, Outcome, Splits};
 
 pub fn say(text: &[u8]) {

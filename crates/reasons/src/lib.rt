@@ -1,4 +1,6 @@
 // Refusals in plain words: what the numbers of document 01's table mean, for all programs that say so.
+#![tactic(auto)]
+
 use print::{number, say};
 
 // Why a record or its body is refused, numbers 1 to 6.

@@ -1,5 +1,7 @@
 // Finding a record at the start of a stretch of bytes: its refusal number, and its body as part of the caller's own bytes.
 // Document 01, "Records in a file" and "Refusal numbers".
+#![tactic(auto)]
+
 ghost use Rattle.std.specs.Prelude.{◌≡◌, ◌+◌, ◌*◌, ◌%◌, ◌^◌, ◌<◌, ◌≤◌, length, ◌==◌};
 ghost use Rattle.statement.specs.Bytes.{word_sum};
 ghost use Rattle.statement.specs.Refusals.{number_of, outcome_of};

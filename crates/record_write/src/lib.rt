@@ -1,4 +1,6 @@
 // Writing a record into a lent slice: the checks of its kind, n and body, then header, body, pad and sum word (document 01, "Records in a file").
+#![tactic(auto)]
+
 ghost use Rattle.std.specs.Prelude.{◌≡◌, ◌+◌, ◌*◌, ◌<◌, ◌≤◌, ◌++◌, length, take, drop};
 ghost use Rattle.std.proofs.Math.Seq.{paste};
 ghost use Rattle.statement.specs.Refusals.{outcome_of};

@@ -1,5 +1,7 @@
 // The calls that grow a list: with an allowance, and the whole run from the start, on a matrix and on a table. None asks anything of its input.
 // Document 01, "Growing and the allowance" and "Refusal numbers".
+#![tactic(auto)]
+
 ghost use Rattle.std.specs.Prelude.{◌≡◌};
 ghost use Rattle.statement.specs.Calls.{grow_matrix, grow_table, run_matrix, run_table};
 ghost use Rattle.run.specs.Replies.{is_done, Checked, grow_by, run_by};

@@ -1,4 +1,6 @@
 // Small pseudo-random inputs for tests: matrices of up to 7 taxa in five shapes, and tables made from such matrices by the four-point rule.
+#![tactic(auto)]
+
 ghost use Rattle.std.specs.Prelude.{◌≡◌, ◌<◌, ◌≤◌, take};
 
 // The next number of a sequence that looks random, below 2,147,483,647.

@@ -1,4 +1,5 @@
 // The program `show`: a record on standard input, a plain description on standard output.
+#![tactic(auto)]
 
 // Up to 65,536 bytes; what follows the first record is ignored.
 fn main() {

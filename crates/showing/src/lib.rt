@@ -1,4 +1,6 @@
 // A record, in plain words: what it is, how many taxa, whether it is accepted or why not, and for a tree its groups as taxon numbers.
+#![tactic(auto)]
+
 ghost use Rattle.std.specs.Prelude.{◌≤◌, length};
 
 use print::{number, say};

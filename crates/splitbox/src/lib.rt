@@ -1,5 +1,7 @@
 // The C face: every call of document 01 over numbers and slices, for a program that links the archive (include/splitbox.h).
 // None asks anything of its input, and a refusal leaves every lent slice and number as it was.
+#![tactic(auto)]
+
 ghost use Rattle.std.specs.Prelude.{◌≡◌, true, false, []};
 ghost use Rattle.statement.specs.Rows.{list_in, list_of};
 ghost use Rattle.statement.specs.Refusals.{outcome_of};

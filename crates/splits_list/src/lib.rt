@@ -1,5 +1,7 @@
 // Lists of splits: made empty, the test that a given list is well-formed, and the checks of a list with k = n.
 // Document 01, "Growing and the allowance": the list has fixed room for 125 rows; well-formed.
+#![tactic(auto)]
+
 ghost use Rattle.std.specs.Prelude.{◌≡◌, [], ℕ, ◌*◌, ◌-◌, ◌^◌, ◌<◌, ◌≤◌, ltb, get_or};
 ghost use Rattle.statement.specs.Cluster.{Split};
 ghost use Rattle.statement.specs.Lowest.{somewhere, nowhere};

@@ -1,4 +1,5 @@
 // What the box's calls hand about, as data. The definitions over these types are in specs/, the theory behind them in proofs/.
+#![tactic(auto)]
 
 // A list of splits of the first `taxa` taxa: its first `rows` rows are used, the others are spare (document 01, "Growing and the allowance").
 #[derive(Drop)]

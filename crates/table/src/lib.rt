@@ -1,5 +1,7 @@
 // The table of resolved fours: how many bytes it has, and its own checks (document 01, "Table rule", "Refusal numbers"). The table is lent as its bytes,
 // one for each four of n taxa.
+#![tactic(auto)]
+
 ghost use Rattle.std.specs.Prelude.{◌≡◌, ℕ, ◌≤◌, ◌<◌, max, length, get_or};
 ghost use Rattle.statement.specs.Table.{choose};
 ghost use Rattle.statement.specs.Lowest.{lowest};

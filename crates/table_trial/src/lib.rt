@@ -1,5 +1,7 @@
 // The trial of a split on a table of resolved fours: what the table says of a newcomer's fours, as sets of taxa, and the trial by them (document 01,
 // "Growing and the allowance"; document 02 §3).
+#![tactic(auto)]
+
 ghost use Rattle.std.specs.Prelude.{◌≡◌, true, false, ℕ, suc, ◌+◌, ◌*◌, ◌≤◌, ◌<◌, length, get_or};
 ghost use Rattle.statement.specs.Table.{choose};
 ghost use Rattle.statement.specs.Growing.{table_trial};

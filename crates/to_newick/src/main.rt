@@ -1,4 +1,5 @@
 // The program `to_newick`: a record on standard input, the Newick text of its list on standard output, or one line that says what is wrong.
+#![tactic(auto)]
 
 // Up to 65,536 bytes; what follows the first record is ignored.
 fn main() {

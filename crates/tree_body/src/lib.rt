@@ -1,4 +1,6 @@
 // The parts of a tree's body: m, m links and n homes (a byte each), then m weights of four bytes. Document 01, "Records in a file".
+#![tactic(auto)]
+
 ghost use Rattle.std.specs.Prelude.{◌≡◌, ◌+◌, ◌≤◌, ◌<◌, length, take, drop};
 ghost use Rattle.tree_body.specs.Words.{word_at};
 

@@ -1,5 +1,7 @@
 // The checks of a tree's body that need no clusters: 1, 2, 9, 14, 10 and 11, each over the whole input before the next, at the lowest place.
 // Document 01, "Refusal numbers".
+#![tactic(auto)]
+
 ghost use Rattle.std.specs.Prelude.{◌≡◌, not, ◌+◌, ◌*◌, ◌≤◌, ◌<◌, ltb, length, get_or};
 ghost use Rattle.statement.specs.Lowest.{lowest, somewhere};
 ghost use Rattle.statement.specs.Tree.{up, on_walk};

@@ -1,5 +1,7 @@
 // Trees read: one in a free numbering, and damaged ones, one or more for each refusal, with the reply that document 01 lists; and lists of
 // pseudo-random matrices and tables sent through writing, reading and writing again.
+#![tactic(auto)]
+
 use statement::{Outcome, Reading, Splits};
 
 // What a reading gives: the rows, or the refusal.

@@ -1,5 +1,7 @@
 // A tree read from its body, in any numbering of its vertices: the clusters of its edges, the checks of them, and the list of its rows.
 // Document 01, "The tree"; "Refusal numbers", 12 and 13.
+#![tactic(auto)]
+
 ghost use Rattle.std.specs.Prelude.{◌≡◌, not, ◌&&◌, ℕ, suc, ◌+◌, ◌*◌, ◌^◌, ◌<◌, ◌≤◌, eqb, length, get_or};
 ghost use Rattle.statement.specs.declared.Outcome.TheVariants.{Done};
 ghost use Rattle.statement.specs.Lowest.{lowest, somewhere};

@@ -1,5 +1,7 @@
 // The tree of a list, written into a lent slice: m, m links, n homes (a byte each), then m weights of four bytes.
 // Document 01, "The tree" and "Records in a file".
+#![tactic(auto)]
+
 ghost use Rattle.std.specs.Prelude.{◌≡◌, List, ℕ, ◌+◌, ◌*◌, ◌^◌, ◌<◌, ◌≤◌, length, get_or};
 ghost use Rattle.std.proofs.Math.Seq.{paste};
 ghost use Rattle.statement.specs.Rows.{Row, weights, rows_of, WellFormed};

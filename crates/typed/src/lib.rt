@@ -1,4 +1,6 @@
 // A matrix typed as numbers, full or its lower half: what is wrong with the text and where, and the body of the matrix's record.
+#![tactic(auto)]
+
 ghost use Rattle.std.specs.Prelude.{◌+◌, ◌*◌, ◌/◌, ◌%◌, ◌≤◌, ◌<◌, ◌≡◌, length, get_or};
 ghost use Rattle.statement.specs.Bytes.{to_bytes};
 ghost use Rattle.typed.specs.Typed.{values_in, half, is_full, value_for, entries_of, said_of, taxa_of, body_said, body_written, entry_place, Small, Taken};

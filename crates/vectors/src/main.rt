@@ -1,6 +1,8 @@
 // Records, sound and damaged, through the main job's own path (v); files of records, walked (w); typed numbers, packed (t); records in plain words (s);
 // Newick texts to records (n), and records to Newick texts (o).
 // The files in data/ and the expected output are made by tests/make_vectors.py from the documents alone.
+#![tactic(auto)]
+
 use statement::Step;
 
 // What a walker says at a place; the place behind it, or 65,536 where it stops.

@@ -1,4 +1,6 @@
 // A walker over a file of records: it holds the lent file with its place and gives record after record (document 01, "Records in a file").
+#![tactic(auto)]
+
 ghost use Rattle.std.specs.Prelude.{◌≡◌};
 ghost use Rattle.statement.specs.Calls.{step_at};
 ghost use Rattle.walker.specs.Moved.{place_after};

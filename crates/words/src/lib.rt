@@ -1,4 +1,6 @@
 // The words of four bytes of a matrix body, little-endian (document 01, "Records in a file").
+#![tactic(auto)]
+
 ghost use Rattle.std.specs.Prelude.{◌≡◌, ◌*◌, ◌≤◌, length, take};
 ghost use Rattle.statement.specs.Bytes.{from_bytes};
 
