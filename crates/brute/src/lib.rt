@@ -158,7 +158,7 @@ fn agrees(c: u64, a: usize, b: usize, x: usize, d: usize, byte: u8) -> bool
 }
 
 // What a walk through the fours in the order of their places has found: the next place, and whether all agreed.
-#[derive(Drop)]
+#[derive(Clone, Copy)]
 struct Fours {
     place: usize,
     all: bool,

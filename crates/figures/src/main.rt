@@ -65,7 +65,7 @@ fn comb() {
 }
 
 // What is left of a growth in parts: the list so far and the trials of all parts.
-#[derive(Drop)]
+#[derive(Clone, Copy)]
 struct Parts {
     list: Splits,
     trials: u64,

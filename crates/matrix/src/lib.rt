@@ -38,7 +38,7 @@ fn bad(number: u8, n: usize, entries: &[u32], i: usize, j: usize) -> bool
 }
 
 // A place in the matrix: its row and its column.
-#[derive(Drop)]
+#[derive(Clone, Copy)]
 struct Cell {
     row: usize,
     column: usize,

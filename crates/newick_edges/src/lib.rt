@@ -10,7 +10,7 @@ ghost use Rattle.newick_edges.specs.Table.{table_in, note_heavy, added, enter as
 use bits::single;
 
 // The taxa met so far, and the place of the first leaf whose taxon was met before or is not below n; 0 where there is none.
-#[derive(Drop)]
+#[derive(Clone, Copy)]
 pub struct Met {
     pub seen: u64,
     pub stray: usize,
@@ -18,7 +18,7 @@ pub struct Met {
 
 // The edges so far: the places of the first that is too heavy and of the first with an empty cluster, 0 where there is none; and the number of
 // the other clusters. Each of these stands once in lent arrays, with its first edge's weight and place, and whether another edge had it.
-#[derive(Drop)]
+#[derive(Clone, Copy)]
 pub struct Noted {
     pub heavy: usize,
     pub bare: usize,

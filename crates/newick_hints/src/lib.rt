@@ -8,7 +8,7 @@ use numerals::{byte_at, is_digit, number_at};
 
 // Up to a place of a text: how many brackets are open (131 stands for more than 130), and how many commas the first of them has (2 stands for more
 // than one).
-#[derive(Drop)]
+#[derive(Clone, Copy)]
 pub struct Level {
     pub depth: usize,
     pub commas: usize,

@@ -7,7 +7,7 @@ ghost use Rattle.newick_text.specs.Automaton.{Use, State, run, ran, Onward, plac
 ghost use Rattle.newick_text.specs.Automaton.{taxon as Auto·taxon, weight as Auto·weight};
 
 // What reading a piece of text comes to: the place past it, or the place of the first bad byte.
-#[derive(Drop)]
+#[derive(Clone, Copy)]
 pub enum Took {
     Past(usize),
     Bad(usize),

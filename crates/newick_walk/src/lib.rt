@@ -13,7 +13,7 @@ use numerals::read_number;
 
 // Where the walk is: the brackets open, the taxa below the edge whose weight comes next, the taxa met and what is noted of the edges.
 // The taxa met before each open bracket, and the table of edges, stand in lent arrays.
-#[derive(Drop)]
+#[derive(Clone, Copy)]
 pub struct Spot {
     pub at: usize,
     pub depth: usize,
@@ -23,7 +23,7 @@ pub struct Spot {
 }
 
 // A number that was read, and the place behind it.
-#[derive(Drop)]
+#[derive(Clone, Copy)]
 struct Numeral {
     value: u32,
     behind: usize,

@@ -42,7 +42,7 @@ fn homes_of(n: usize, clusters: &[u64; 125], m: usize) -> [usize; 64]
 }
 
 // The links and the homes of a well-formed list.
-#[derive(Drop)]
+#[derive(Clone, Copy)]
 struct Arrays {
     links: [usize; 125],
     homes: [usize; 64],

@@ -9,14 +9,14 @@ ghost use Rattle.numerals.specs.Numerals.{space, starts_at, number_at, starts_in
 ghost use Rattle.numerals.specs.Place.{behind, place_of};
 
 // Line and column, both from 1.
-#[derive(Drop)]
+#[derive(Clone, Copy)]
 pub struct Place {
     pub line: usize,
     pub column: usize,
 }
 
 // A number that was read, and the place behind it.
-#[derive(Drop)]
+#[derive(Clone, Copy)]
 pub struct Number {
     pub value: u64,
     pub behind: usize,

@@ -13,7 +13,7 @@ use splits_list::empty;
 use statement::Splits;
 
 // How far a list is passed: its next row, and the number of rows that were pushed.
-#[derive(Drop)]
+#[derive(Clone, Copy)]
 struct Merged {
     at: usize,
     rows: usize,

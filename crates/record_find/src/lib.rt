@@ -62,7 +62,7 @@ pub fn record_length(len: usize) -> usize
 }
 
 // The kinds that a call takes.
-#[derive(Drop)]
+#[derive(Clone, Copy)]
 pub struct Taken {
     pub matrices: bool,
     pub tables: bool,

@@ -141,7 +141,7 @@ fn resolved(d: &[u32; 49], n: usize, a: usize, b: usize, x: usize, y: usize) -> 
 }
 
 // A table as far as it is filled.
-#[derive(Drop)]
+#[derive(Clone, Copy)]
 struct Filling {
     bytes: [u8; 35],
     place: usize,

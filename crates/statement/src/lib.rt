@@ -2,7 +2,7 @@
 #![tactic(auto)]
 
 // A list of splits of the first `taxa` taxa: its first `rows` rows are used, the others are spare (document 01, "Growing and the allowance").
-#[derive(Drop)]
+#[derive(Clone, Copy)]
 pub struct Splits {
     pub taxa: usize,
     pub rows: usize,
@@ -11,7 +11,7 @@ pub struct Splits {
 }
 
 // What a call says: done, stopped for want of allowance, or refused, with the number and the place of document 01's table.
-#[derive(Drop)]
+#[derive(Clone, Copy)]
 pub enum Outcome {
     Done,
     Short,
@@ -19,7 +19,7 @@ pub enum Outcome {
 }
 
 // What growth and a whole run hand back.
-#[derive(Drop)]
+#[derive(Clone, Copy)]
 pub struct Growth {
     pub outcome: Outcome,
     pub list: Splits,
@@ -27,7 +27,7 @@ pub struct Growth {
 }
 
 // What reading a tree hands back.
-#[derive(Drop)]
+#[derive(Clone, Copy)]
 pub struct Reading {
     pub outcome: Outcome,
     pub list: Splits,
@@ -35,7 +35,7 @@ pub struct Reading {
 
 // What a walker says at its place: the end of the file; a record, with the start and the length of its body and the place behind it; or a
 // refused record, with its number and place, at which the walker does not move.
-#[derive(Drop)]
+#[derive(Clone, Copy)]
 pub enum Step {
     End,
     Found(usize, usize, usize),

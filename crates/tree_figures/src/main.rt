@@ -63,7 +63,7 @@ fn readings() {
 }
 
 // A body of 64 bytes, of which the first are a tree's.
-#[derive(Drop)]
+#[derive(Clone, Copy)]
 struct Body {
     bytes: [u8; 64],
     done: bool,

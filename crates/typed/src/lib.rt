@@ -9,7 +9,7 @@ use numerals::{count, first_wrong, number_of, start_of};
 use tree_write::put_four;
 
 // What is said of a text. Places are bytes of the text, from 0.
-#[derive(Drop)]
+#[derive(Clone, Copy)]
 pub enum Typed {
     // A matrix of n taxa.
     Matrix(usize),

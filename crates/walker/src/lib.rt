@@ -35,7 +35,7 @@ pub fn place_after(file: &[u8], place: usize) -> usize
     }
 }
 
-#[derive(Drop)]
+#[derive(Clone, Copy)]
 pub struct Walker<'a> {
     pub file: &'a [u8],
     pub place: usize,

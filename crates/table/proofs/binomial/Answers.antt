@@ -1,0 +1,30 @@
+-- `table::binomial` meets its contract. The loop has C(p,i), and goes on by (q + 1) C(p,q+1) = C(p,q) (p - q).
+use Prim.Native.Nat.{◌*◌, ◌-◌, ◌^◌, ◌≤◌}
+use native.Mathlib.Numerals.{add-one}
+use native.Mathlib.Omega.{arith}
+use mathlib.Core.Path.{◌≡◌, refl, sym}
+use Rattle.statement.specs.Table.{choose}
+use Rattle.table.proofs.Choose.{choose_none, choose_next, choose_fits}
+use Rattle.table.proofs.binomial.Goals as goal
+
+pub returns-then-p-q : goal.returns-then-p-q
+returns-then-p-q c = sym (choose_none c.before.args.p c.before.args.q (omega arith))
+
+pub loop-i-init : goal.loop-i-init
+unfolding choose
+loop-i-init c = (omega arith, refl)
+
+pub overflow_mul-r : goal.overflow_mul-r
+overflow_mul-r c =
+    let p = c.before.before.before.args.p in
+    let l = c.before.loop-i in
+    let f : l.r * (p - l.i) ≤ 64 ^ 5 = rw l.invariant.1 (choose_fits p l.i (omega arith) (omega arith)) in
+    omega arith
+
+pub loop-i-preserved : goal.loop-i-preserved
+loop-i-preserved c =
+    let l = c.before.loop-i in
+    (omega arith, rw (l.invariant.1, add-one) (choose_next c.before.before.before.args.p l.i))
+
+pub returns : goal.returns
+returns c = let e : c.before.loop-i.i ≡ c.before.before.before.args.q = omega arith in rw e at c.before.loop-i.invariant.1
