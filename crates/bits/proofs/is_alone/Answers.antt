@@ -1,5 +1,4 @@
 -- `bits::is_alone` meets its contract: no taxon passed is beside u.
-use Prim.Native.Nat.{◌-◌}
 use mathlib.Core.Path.{sym, ◌∙◌}
 use Rattle.statement.proofs.Lowest.{looking_begun, looking_on}
 use Rattle.bits.proofs.Searches.{not_alone, all_passed}

@@ -1,5 +1,5 @@
 -- `bits::members` meets its contract: the taxa passed are listed where they are on the other side.
-use Prim.Native.Nat.{◌-◌, ◌%◌, ◌<◌}
+use Prim.Native.Nat.{◌%◌, ◌<◌}
 use native.Mathlib.Omega.{arith}
 use mathlib.Core.Path.{◌≡◌}
 use lib.Dec.{eqb}

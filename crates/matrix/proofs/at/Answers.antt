@@ -5,24 +5,34 @@ use mathlib.Core.Path.{refl}
 use Rattle.matrix.proofs.Entries.{within}
 use Rattle.matrix.proofs.at.Goals as goal
 
-place : (c : goal.Start) → (c.args.i * c.args.n + c.args.j < c.args.n * c.args.n) × (c.args.n * c.args.n ≤ 4096)
-place c =
-    let accepted = c.requires.0 in
-    within c.args.n c.args.i c.args.j {es = c.args.entries.now} (record { few = accepted.few; size = accepted.size }) c.requires.1 c.requires.2
-
 pub overflow_mul-result : goal.overflow_mul-result
-overflow_mul-result c = omega (arith, place c)
+overflow_mul-result c =
+    let place : (c.args.i * c.args.n + c.args.j < c.args.n * c.args.n) × (c.args.n * c.args.n ≤ 4096) =
+    let accepted = c.requires.0 in
+    within c.args.n c.args.i c.args.j {es = c.args.entries.now} (record { few = accepted.few; size = accepted.size }) c.requires.1 c.requires.2 in
+    omega (arith, place)
 
 pub overflow_add-result : goal.overflow_add-result
-overflow_add-result c = omega (arith, place c)
+overflow_add-result c =
+    let place : (c.args.i * c.args.n + c.args.j < c.args.n * c.args.n) × (c.args.n * c.args.n ≤ 4096) =
+    let accepted = c.requires.0 in
+    within c.args.n c.args.i c.args.j {es = c.args.entries.now} (record { few = accepted.few; size = accepted.size }) c.requires.1 c.requires.2 in
+    omega (arith, place)
 
 pub offset_bounds-entries-i : goal.offset_bounds-entries-i
-offset_bounds-entries-i c = omega (arith, place c)
+offset_bounds-entries-i c =
+    let place : (c.args.i * c.args.n + c.args.j < c.args.n * c.args.n) × (c.args.n * c.args.n ≤ 4096) =
+    let accepted = c.requires.0 in
+    within c.args.n c.args.i c.args.j {es = c.args.entries.now} (record { few = accepted.few; size = accepted.size }) c.requires.1 c.requires.2 in
+    omega (arith, place)
 
 pub bounds-entries-i : goal.bounds-entries-i
-bounds-entries-i c = omega (arith, place c.before, c.before.requires.0.size)
+bounds-entries-i c =
+    let place : (c.args.i * c.args.n + c.args.j < c.args.n * c.args.n) × (c.args.n * c.args.n ≤ 4096) =
+    let accepted = c.requires.0 in
+    within c.args.n c.args.i c.args.j {es = c.args.entries.now} (record { few = accepted.few; size = accepted.size }) c.requires.1 c.requires.2 in
+    omega (arith, place, c.requires.0.size)
 
 pub returns : goal.returns
 returns c =
-    let s = c.before in
-    (refl, s.requires.0.limit s.args.i s.args.j s.requires.1 s.requires.2)
+    (refl, c.requires.0.limit c.args.i c.args.j c.requires.1 c.requires.2)

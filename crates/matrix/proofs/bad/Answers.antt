@@ -5,58 +5,50 @@ use Rattle.matrix.proofs.bad.Goals as goal
 
 pub returns-then-i-j : goal.returns-then-i-j
 returns-then-i-j c =
-    let read = c.before.before in
-    let s = read.before.before in
-    let a = s.args in
+    let a = c.args in
     rw (
-      read.between-entry.ensures.0,
-      eq-eqb a.number 3 c.before.if-number-eq3.true,
-      digits_div a.i s.requires.2,
-      digits_mod a.i s.requires.2,
+      c.between-entry.ensures.0,
+      eq-eqb a.number 3 c.if-number-eq3.true,
+      digits_div a.i c.requires.2,
+      digits_mod a.i c.requires.2,
       eq-eqb a.i a.j c.if-i-j.true,
     )
 
 pub returns-else-i-j : goal.returns-else-i-j
 returns-else-i-j c =
-    let s = c.before.before.before.before in
-    let a = s.args in
+    let a = c.args in
     rw (
-      eq-eqb a.number 3 c.before.if-number-eq3.true,
-      digits_div a.i s.requires.2,
-      digits_mod a.i s.requires.2,
+      eq-eqb a.number 3 c.if-number-eq3.true,
+      digits_div a.i c.requires.2,
+      digits_mod a.i c.requires.2,
       ne_eqb a.i a.j c.if-i-j.false,
     )
 
 pub returns-then-number-eq4 : goal.returns-then-number-eq4
 returns-then-number-eq4 c =
-    let read = c.before.before in
-    let a = read.before.before.args in
-    rw (read.between-entry.ensures.0, ne_eqb a.number 3 c.before.if-number-eq3.false, eq-eqb a.number 4 c.if-number-eq4.true)
+    let a = c.args in
+    rw (c.between-entry.ensures.0, ne_eqb a.number 3 c.if-number-eq3.false, eq-eqb a.number 4 c.if-number-eq4.true)
 
 pub returns-then-i-j-2 : goal.returns-then-i-j-2
 returns-then-i-j-2 c =
-    let upper = c.before in
-    let read = upper.before.before.before in
-    let s = read.before.before in
-    let a = s.args in
+    let a = c.args in
     rw (
       c.between.ensures.0,
-      read.between-entry.ensures.0,
-      ne_eqb a.number 3 upper.before.before.if-number-eq3.false,
-      ne_eqb a.number 4 upper.before.if-number-eq4.false,
-      digits_div a.i s.requires.2,
-      digits_mod a.i s.requires.2,
-      lt-ltb a.i a.j upper.if-i-j-2.true,
+      c.between-entry.ensures.0,
+      ne_eqb a.number 3 c.if-number-eq3.false,
+      ne_eqb a.number 4 c.if-number-eq4.false,
+      digits_div a.i c.requires.2,
+      digits_mod a.i c.requires.2,
+      lt-ltb a.i a.j c.if-i-j-2.true,
     )
 
 pub returns-else-i-j-2 : goal.returns-else-i-j-2
 returns-else-i-j-2 c =
-    let s = c.before.before.before.before.before in
-    let a = s.args in
+    let a = c.args in
     rw (
-      ne_eqb a.number 3 c.before.before.if-number-eq3.false,
-      ne_eqb a.number 4 c.before.if-number-eq4.false,
-      digits_div a.i s.requires.2,
-      digits_mod a.i s.requires.2,
+      ne_eqb a.number 3 c.if-number-eq3.false,
+      ne_eqb a.number 4 c.if-number-eq4.false,
+      digits_div a.i c.requires.2,
+      digits_mod a.i c.requires.2,
       le-ltb a.i a.j c.if-i-j-2.false,
     )

@@ -10,5 +10,5 @@ use Rattle.matrix.proofs.lowered_by.Goals as goal
 
 pub returns : goal.returns
 returns c =
-    let a = c.before.before.args in
-    c.lowered.ensures ∙ ap (λ (z : ℤ). min (above z) a.best) (to_z-of_z w64 _ (sfits_of c.before.less.type-inv) ∙ c.before.less.ensures)
+    let a = c.args in
+    c.lowered.ensures ∙ ap (λ (z : ℤ). min (above z) a.best) (to_z-of_z w64 _ (sfits_of c.less.type_inv) ∙ c.less.ensures)

@@ -9,14 +9,8 @@ use Rattle.matrix.proofs.score_of.Goals as goal
 
 pub returns : goal.returns
 returns c =
-    let yz = c.before.before in
-    let wx = yz.before in
-    let xy = wx.before in
-    let wz = xy.before in
-    let xz = wz.before in
-    let wy = xz.before in
-    let a = wy.before.before.args in
-    to_z-of_z w64 _ (sfits_of c.less.type-inv)
+    let a = c.args in
+    to_z-of_z w64 _ (sfits_of c.less.type_inv)
     ∙ c.less.ensures
-    ∙ score_is (distance a.n a.entries.now) a.w a.x a.y a.z wy.at.ensures.0 xz.at-2.ensures.0 wz.at-3.ensures.0
-    xy.at-4.ensures.0 wx.at-5.ensures.0 yz.at-6.ensures.0 c.before.least.ensures
+    ∙ score_is (distance a.n a.entries.now) a.w a.x a.y a.z c.at.ensures.0 c.at-2.ensures.0 c.at-3.ensures.0
+    c.at-4.ensures.0 c.at-5.ensures.0 c.at-6.ensures.0 c.least.ensures

@@ -1,5 +1,4 @@
 -- `numerals::first_wrong` meets its contract. The loop has passed no wrong place.
-use Prim.Native.Nat.{◌-◌}
 use mathlib.Core.Path.{sym, ◌∙◌}
 use Rattle.statement.proofs.Lowest.{looking_begun, looking_on, looking_found, looking_ended}
 use Rattle.numerals.proofs.first_wrong.Goals as goal
@@ -9,13 +8,11 @@ loop-p-init c = looking_begun
 
 pub returns-then-wrong : goal.returns-then-wrong
 returns-then-wrong c =
-    let called = c.before in
-    looking_found called.before.before.loop-p.invariant called.before.loop-p-test.true (sym called.wrong.ensures ∙ c.if-wrong.true)
+    looking_found c.loop-p.invariant c.loop-p-test.true (sym c.wrong.ensures ∙ c.if-wrong.true)
 
 pub loop-p-preserved : goal.loop-p-preserved
 loop-p-preserved c =
-    let called = c.before in
-    looking_on called.before.before.loop-p.invariant called.before.loop-p-test.true (sym called.wrong.ensures ∙ c.if-wrong.false)
+    looking_on c.loop-p.invariant c.loop-p-test.true (sym c.wrong.ensures ∙ c.if-wrong.false)
 
 pub returns : goal.returns
-returns c = looking_ended c.before.loop-p.invariant c.loop-p-test.false
+returns c = looking_ended c.loop-p.invariant c.loop-p-test.false

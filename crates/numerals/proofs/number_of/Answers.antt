@@ -7,6 +7,6 @@ use Rattle.numerals.proofs.number_of.Goals as goal
 
 pub returns : goal.returns
 returns c =
-    let a = c.before.before.before.args in
+    let a = c.args in
     let text = a.text.now in
-    c.number_at.ensures ∙ ap (λ (x : ℕ). min x too_large) (ap (number_at text) c.before.start_of_lem.ensures ∙ sym (number_is text a.i))
+    c.number_at.ensures ∙ ap (λ (x : ℕ). min x too_large) (ap (number_at text) c.start_of.ensures ∙ sym (number_is text a.i))

@@ -8,7 +8,7 @@ use Rattle.table.proofs.Choose.{choose_none, choose_next, choose_fits}
 use Rattle.table.proofs.binomial.Goals as goal
 
 pub returns-then-p-q : goal.returns-then-p-q
-returns-then-p-q c = sym (choose_none c.before.args.p c.before.args.q (omega arith))
+returns-then-p-q c = sym (choose_none c.args.p c.args.q (omega arith))
 
 pub loop-i-init : goal.loop-i-init
 unfolding choose
@@ -16,15 +16,15 @@ loop-i-init c = (omega arith, refl)
 
 pub overflow_mul-r : goal.overflow_mul-r
 overflow_mul-r c =
-    let p = c.before.before.before.args.p in
-    let l = c.before.loop-i in
+    let p = c.args.p in
+    let l = c.loop-i in
     let f : l.r * (p - l.i) ≤ 64 ^ 5 = rw l.invariant.1 (choose_fits p l.i (omega arith) (omega arith)) in
     omega arith
 
 pub loop-i-preserved : goal.loop-i-preserved
 loop-i-preserved c =
-    let l = c.before.loop-i in
-    (omega arith, rw (l.invariant.1, add-one) (choose_next c.before.before.before.args.p l.i))
+    let l = c.loop-i in
+    (omega arith, rw (l.invariant.1, add-one) (choose_next c.args.p l.i))
 
 pub returns : goal.returns
-returns c = let e : c.before.loop-i.i ≡ c.before.before.before.args.q = omega arith in rw e at c.before.loop-i.invariant.1
+returns c = let e : c.loop-i.i ≡ c.args.q = omega arith in rw e at c.loop-i.invariant.1

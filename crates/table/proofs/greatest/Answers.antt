@@ -1,5 +1,5 @@
 -- `table::greatest` meets its contract: no byte that is passed exceeds it.
-use Prim.Native.Nat.{◌-◌, ◌≤◌}
+use Prim.Native.Nat.{◌≤◌}
 use native.Mathlib.Omega.{arith}
 use borrow.Author.Count.{below_none, below_more}
 use Rattle.table.proofs.greatest.Goals as goal
@@ -9,9 +9,9 @@ loop-at-init c = (omega arith, below_none _)
 
 pub loop-at-preserved : goal.loop-at-preserved
 loop-at-preserved c =
-    let l = c.before.before.before.loop-at in
+    let l = c.loop-at in
     let higher : l.top ≤ c.greater-top.result = omega (arith, c.greater-top.ensures) in
     (omega arith, below_more _ l.at (λ i h. omega (arith, l.invariant.1 i h)) (omega (arith, c.greater-top.ensures)))
 
 pub returns : goal.returns
-returns c = λ i h. c.before.loop-at.invariant.1 i (omega arith)
+returns c = λ i h. c.loop-at.invariant.1 i (omega arith)
