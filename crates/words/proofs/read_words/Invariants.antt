@@ -1,0 +1,12 @@
+-- `words::read_words` meets its contract, a word at a time.
+use Prim.Native.Nat.{◌-◌, ◌≤◌}
+use mathlib.Core.Path.{◌≡◌}
+use lib.ListN.{length, take}
+use Rattle.statement.specs.Bytes.{from_bytes}
+use Rattle.words.proofs.read_words.Given as goal
+
+abbrev pub invariant-loop-e : goal.invariant-loop-e
+invariant-loop-e l = (l.e ≤ l.count) × (length l.words ≡ 4096) × (take l.e l.words ≡ take l.e (from_bytes l.body))
+
+abbrev pub decreases-loop-e : goal.decreases-loop-e
+decreases-loop-e l = l.count - l.e
