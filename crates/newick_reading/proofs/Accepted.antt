@@ -129,6 +129,7 @@ sentence_accepted n f e =
 
 -- THE ROWS
 pub row_of_law : (n : ℕ) (es : List Edge) (r : Row) → Held r (map (row_of n) es) → (e : Edge) × InE e es × (r ≡ row_of n e)
+row_of_law n [] r x' = elim x' [ ]
 row_of_law n (e ∷ es) r (inl q) = (e, inl refl, q)
 row_of_law n (e ∷ es) r (inr h) = let (d, i, q) = row_of_law n es r h in (d, inr i, q)
 
@@ -144,6 +145,7 @@ kept_in (x ∷ es) e h = go (eqb x.weight 0) refl h (λ k. kept_in es e k)
 
 pub none_test : (test : Edge → Bool) (es : List Edge) (e : Edge) → places_of test es ≡ [] → InE e es → test e ≡ false
 unfolding places_of
+none_test test [] e z h = elim h [ ]
 none_test test (x ∷ es) e z h = go (test x) refl z h (λ k i. none_test test es e k i)
   where
     go : (b : Bool) → test x ≡ b → cond b (x.place ∷ places_of test es) (places_of test es) ≡ [] → (e ≡ x) ⊎ InE e es

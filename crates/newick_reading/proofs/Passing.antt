@@ -75,6 +75,7 @@ places_none test [] h = refl
 places_none test (e ∷ es) h = rw (h e (inl refl)) (places_none test es (λ d i. h d (inr i)))
 
 pub row_in : (n : ℕ) (es : List Edge) (e : Edge) → InE e es → Held (row_of n e) (map (row_of n) es)
+row_in n [] e x' = elim x' [ ]
 row_in n (x ∷ es) e (inl q) = inl (ap (row_of n) q)
 row_in n (x ∷ es) e (inr i) = inr (row_in n es e i)
 

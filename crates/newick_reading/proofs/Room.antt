@@ -24,6 +24,7 @@ use Rattle.newick_noted.proofs.Once.{clusters_e, clusters_h, Distinct, distinct_
 use Rattle.newick_reading.proofs.Nested.{InE, Nest, nested, no_conflict, cluster_split}
 
 pub mem_among : (x : ℕ) (xs : List ℕ) → Mem x xs → among x xs ≡ true
+mem_among x [] x'' = elim x'' [ ]
 mem_among x (y ∷ ys) (inl e) = rw (eq-eqb x y e)
 mem_among x (y ∷ ys) (inr m) = or_right (eqb x y) (among x ys) (mem_among x ys m)
 
