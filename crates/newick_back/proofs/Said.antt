@@ -12,7 +12,7 @@ use borrow.Author.Tests.{eq-eqb, ne_eqb, lt-ltb, le-ltb}
 use Rattle.statement.specs.Cluster.{group_of}
 use Rattle.statement.specs.Rows.{Row, row, clusters, Mem, Ascending}
 use Rattle.row_sort.proofs.Sorting.{Held, Different}
-use Rattle.statement.specs.Sentence.{Children, leaf, group, leaf_then, group_then, value, Edge, among, taxa_of, edges_at, kept_edges}
+use Rattle.statement.specs.Sentence.{Children, past_leaf, past_group, leaf, group, leaf_then, group_then, value, Edge, among, taxa_of, edges_at, kept_edges}
 use Rattle.newick_noted.proofs.Taxa.{Good}
 use Rattle.newick_reading.proofs.Nested.{InE}
 use Rattle.newick_list.proofs.Sums.{total, total_append}
@@ -127,16 +127,16 @@ Few f e = (i : ℕ) → count i e.below ≤ count i (taxa_of f)
 pub all_few : (p : ℕ) (f : Children) → All (Few f) (edges_at p f)
 unfolding edges_at taxa_of
 all_few p (leaf x w) = ((λ i. omega arith), tt)
-all_few p (group f w) = all_append (Few f) (edges_at _ f) _ (all_few _ f) ((λ i. omega arith), tt)
+all_few p (group f w) = all_append (Few f) (edges_at (p + 1) f) _ (all_few (p + 1) f) ((λ i. omega arith), tt)
 all_few p (leaf_then x w r) = (
   (λ i. omega (arith, count_cons i (value x) [], count_cons i (value x) (taxa_of r), count_none i)),
-  all_map (Few r) (Few (leaf_then x w r)) (edges_at _ r) (λ e h i. omega (arith, h i, count_cons i (value x) (taxa_of r))) (all_few _ r),
+  all_map (Few r) (Few (leaf_then x w r)) (edges_at _ r) (λ e h i. omega (arith, h i, count_cons i (value x) (taxa_of r))) (all_few (past_leaf p x w) r),
 )
 all_few p (group_then f w r) =
     all_append (Few (group_then f w r)) (edges_at _ f) _
-    (all_map (Few f) (Few (group_then f w r)) (edges_at _ f) (λ e h i. omega (arith, h i, total_append (one i) (taxa_of f) (taxa_of r))) (all_few _ f)) (
+    (all_map (Few f) (Few (group_then f w r)) (edges_at _ f) (λ e h i. omega (arith, h i, total_append (one i) (taxa_of f) (taxa_of r))) (all_few (p + 1) f)) (
       (λ i. omega (arith, total_append (one i) (taxa_of f) (taxa_of r))),
-      all_map (Few r) (Few (group_then f w r)) (edges_at _ r) (λ e h i. omega (arith, h i, total_append (one i) (taxa_of f) (taxa_of r))) (all_few _ r),
+      all_map (Few r) (Few (group_then f w r)) (edges_at _ r) (λ e h i. omega (arith, h i, total_append (one i) (taxa_of f) (taxa_of r))) (all_few (past_group p f w) r),
     )
 
 -- an edge by the number of the group below it
@@ -146,11 +146,11 @@ row_below e = row (mask e.below) e.weight
 pub edges_are : (p : ℕ) (f : Children) → map row_below (edges_at p f) ≡ rows_below f
 unfolding edges_at rows_below taxa_of
 edges_are p (leaf x w) = refl
-edges_are p (group f w) = map_two row_below (edges_at _ f) _ ∙ ap (λ (l : List Row). l ++ (row (mask (taxa_of f)) (value w) ∷ [])) (edges_are _ f)
-edges_are p (leaf_then x w r) = ap (λ (l : List Row). row (mask (value x ∷ [])) (value w) ∷ l) (edges_are _ r)
+edges_are p (group f w) = map_two row_below (edges_at _ f) _ ∙ ap (λ (l : List Row). l ++ (row (mask (taxa_of f)) (value w) ∷ [])) (edges_are (p + 1) f)
+edges_are p (leaf_then x w r) = ap (λ (l : List Row). row (mask (value x ∷ [])) (value w) ∷ l) (edges_are (past_leaf p x w) r)
 edges_are p (group_then f w r) =
     map_two row_below (edges_at _ f) _
-    ∙ ap₂ (λ (l m : List Row). l ++ (row (mask (taxa_of f)) (value w) ∷ m)) (edges_are _ f) (edges_are _ r)
+    ∙ ap₂ (λ (l m : List Row). l ++ (row (mask (taxa_of f)) (value w) ∷ m)) (edges_are (p + 1) f) (edges_are (past_group p f w) r)
     ∙ sym (append_assoc (rows_below f) (row (mask (taxa_of f)) (value w) ∷ []) (rows_below r))
 
 pub kept_are : (es : List Edge) → map row_below (kept_edges es) ≡ positive (map row_below es)

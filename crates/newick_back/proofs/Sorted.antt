@@ -57,6 +57,7 @@ sort_level [] = tt
 sort_level (x ∷ xs) = insert_level 0 x (sort_rows xs) (omega arith) (sort_level xs)
 
 level_held : (low : ℕ) (r : Row) (xs : List Row) → Level low xs → Held r xs → low ≤ r.cluster
+level_held low r [] h x'' = elim x'' [ ]
 level_held low r (x ∷ xs) h (inl e) = omega (arith, h.0, ap (λ (y : Row). y.cluster) e)
 level_held low r (x ∷ xs) h (inr k) = omega (arith, h.0, level_held x.cluster r xs h.1 k)
 

@@ -53,6 +53,7 @@ pub record Among (p : ℕ → Bool) (i m x : ℕ) : Type 0 where
 
 pub those_of : (p : ℕ → Bool) (i m x : ℕ) → Mem x (those_from p i m) → Among p i m x
 unfolding those_from
+those_of p i zero x h = elim h [ ]
 those_of p i (suc m) x h = go (p i) refl h (λ k. those_of p (suc i) m x k)
   where
     wider : Among p (suc i) m x → Among p i (suc m) x

@@ -31,6 +31,7 @@ use Rattle.tree_read.proofs.Twins.{twinned}
 
 -- checks, and others after them
 given_first : (cs ds : List Check) (number place : ℕ) → Given cs number place → Given (cs ++ ds) number place
+given_first [] ds number place x' = elim x' [ ]
 given_first (c ∷ cs) ds number place (inl f) = inl f
 given_first (c ∷ cs) ds number place (inr (p, g)) = inr (p, given_first cs ds number place g)
 
