@@ -1,3 +1,2 @@
 -- The root of the proofs.
 pub mod Stepping
-mod Apart
