@@ -1,4 +1,4 @@
-/* The split box for C programs. Link with libsplitbox.a (x86-64 Linux; `rt staticlib splitbox` makes it).
+/* The split box for C programs. Link with libsplitbox.a (x86-64 Linux; `rt lib` in crates/splitbox makes it).
  *
  * The library keeps nothing between calls, takes no memory of its own but stack (under 64 KiB a call), writes to nothing but
  * what is lent to it, and never fails to return. Every call takes any input whatever: what is broken is turned away with a

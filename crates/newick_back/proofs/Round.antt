@@ -1,5 +1,5 @@
 -- THE ROUND TRIP: the text written of a list, whatever stands behind it, is read back as that list. Document 02, §2. Assumes nothing.
-use Prim.Native.Nat.{ℕ, ◌+◌, ◌^◌, ◌≤◌}
+use Prim.Native.Nat.{ℕ, ◌^◌, ◌≤◌}
 use native.Mathlib.Omega.{arith}
 use mathlib.Core.Path.{◌≡◌, refl, sym, ◌∙◌, ap, ap₂, subst}
 use mathlib.Core.Bool.{Bool, true, false, cond, not}
@@ -10,7 +10,7 @@ use Rattle.statement.specs.declared.Splits.{Splits}
 use Rattle.statement.specs.declared.Outcome.TheVariants.{Done}
 use Rattle.statement.specs.Cluster.{bit, Out, group_of}
 use Rattle.statement.specs.Matrix.{weight_limit}
-use Rattle.statement.specs.Rows.{Row, row, clusters, weights, rows_of, list_of}
+use Rattle.statement.specs.Rows.{Row, row, clusters, rows_of, list_of}
 use Rattle.statement.specs.Tree.{sort_rows}
 use Rattle.statement.proofs.Enlarged.{WellRows}
 use Rattle.statement.proofs.Groups.{group_bit}

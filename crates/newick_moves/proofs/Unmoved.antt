@@ -1,5 +1,5 @@
 -- THE LIST DOES NOT CHANGE where children come in another order or the root moves. Assumes nothing.
-use Prim.Native.Nat.{ℕ, ◌+◌, ◌<◌}
+use Prim.Native.Nat.{ℕ, ◌<◌}
 use native.Mathlib.Omega.{arith}
 use mathlib.Core.Path.{◌≡◌, sym, ◌∙◌, ap}
 use mathlib.Core.List.{List, [], ◌∷◌, ◌++◌, map}
@@ -11,7 +11,7 @@ use Rattle.statement.specs.Tree.{sort_rows}
 use Rattle.row_sort.proofs.Sorting.{Different}
 use Rattle.statement.specs.Sentence.{Children, group, children_text, Fits, Edge, taxa_of, edges_at, edges_of, row_of}
 use Rattle.newick_meaning.specs.Parse.{read_newick}
-use Rattle.newick_noted.proofs.Taxa.{Good, taxa}
+use Rattle.newick_noted.proofs.Taxa.{Good}
 use Rattle.newick_reading.proofs.Nested.{InE}
 use Rattle.newick_reading.proofs.Same.{too_heavy, is_bare}
 use Rattle.newick_reading.proofs.Passing.{All, all_of, none_missing, places_none, row_in, twins_none, later_none, accepted_reply}

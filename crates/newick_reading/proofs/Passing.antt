@@ -1,5 +1,5 @@
 -- PASSING EVERY CHECK: a sentence that is `Accepted` is read as the rows of its edges; what each check asks for that. Assumes nothing.
-use Prim.Native.Nat.{ℕ, suc, ◌+◌, ◌<◌}
+use Prim.Native.Nat.{ℕ, suc, ◌<◌}
 use native.Mathlib.Omega.{arith}
 use mathlib.Core.Path.{◌≡◌, refl, sym, ◌∙◌, ap, ap₂, subst}
 use mathlib.Core.Logic.{inl, inr}

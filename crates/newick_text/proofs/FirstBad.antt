@@ -2,13 +2,13 @@
 use mathlib.Core.Path.{◌≡◌, refl, ap, sym, ◌∙◌, subst}
 use mathlib.Core.Bool.{Bool, true, false, cond}
 use mathlib.Core.List.{List, [], ◌∷◌, ◌++◌, append_assoc, append-nil}
-use Prim.Native.Nat.{ℕ, zero, suc, ◌+◌, ◌-◌, ◌≤◌, ◌<◌}
+use Prim.Native.Nat.{ℕ, zero, suc, ◌≤◌, ◌<◌}
 use native.Mathlib.Omega.{arith}
 use lib.Dec.{eqb}
 use lib.ListN.{length, take, drop, get_or, length-append, take-append-drop}
 use lib.Seq.{drop-cons, take-suc, append_snoc, take-take}
 use native.Mathlib.Decide.{dec_lt}
-use Rattle.newick_text.specs.Automaton.{Use, taxon, weight, State, start, want, some, over, close, Step, stop, end, move, bad, good, opened, closed, first, after, next, pick, run, whole}
+use Rattle.newick_text.specs.Automaton.{Use, taxon, weight, State, start, want, some, over, close, Step, stop, end, move, bad, good, opened, closed, first, after, next, pick, run}
 use Rattle.statement.specs.Decimal.{digit}
 use Rattle.statement.specs.Sentence.{Children, children_text, Fits}
 use Rattle.statement.specs.Grammar.{IsSentence, Viable, FirstBad}

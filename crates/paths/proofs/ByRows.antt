@@ -12,7 +12,7 @@ use lib.Dec.{eqb}
 use lib.ListN.{length, get_or, drop, get_or-map}
 use borrow.Author.Tests.{ltb-true, eqb-true, eqb-false, eq-eqb}
 use Rattle.statement.specs.Cluster.{bit, In, Out}
-use Rattle.statement.specs.Rows.{Row, row, clusters, weights}
+use Rattle.statement.specs.Rows.{Row, row, clusters}
 use Rattle.statement.specs.Tree.{Tree, root, cluster_at, link_of, home_of, tree_of, up, walk, on_walk, rise, climb, path_sum}
 use Rattle.statement.proofs.Bits.{zero_or_one}
 use Rattle.statement.proofs.Groups.{Strictly}

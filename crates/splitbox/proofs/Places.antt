@@ -1,5 +1,5 @@
 -- Number and place of any refusal of any call share a reply: the number is below 254, the place below 2 ^ 48. Assumes nothing.
-use Prim.Native.Nat.{ℕ, zero, suc, ◌+◌, ◌*◌, ◌^◌, ◌≤◌, ◌<◌}
+use Prim.Native.Nat.{ℕ, zero, suc, ◌*◌, ◌^◌, ◌≤◌, ◌<◌}
 use native.Mathlib.Omega.{arith}
 use native.Mathlib.Nat.{mul-le-mul, le_trans}
 use mathlib.Core.Path.{◌≡◌, refl}

@@ -8,7 +8,7 @@ use mathlib.Core.Logic.{◌≢◌, ◌⊎◌, inl, inr, ◌↔◌}
 use mathlib.Core.Bool.{Bool, true, false, cond}
 use lib.Dec.{T, ltb, leb→le, le→leb}
 use lib.IntN.{ℤ, pos, negsuc, sub_ℕ}
-use lib.Signed.{◌≤ℤ◌, ◌<ℤ◌, le_z, ≤ℤ_refl, <ℤ-≤ℤ_trans}
+use lib.Signed.{◌≤ℤ◌, le_z, ≤ℤ_refl, <ℤ-≤ℤ_trans}
 use borrow.Author.Tests.{ltb-true, ltb-false}
 use Rattle.statement.specs.Cluster.{bit, Single, Across, Pair}
 use Rattle.statement.specs.Matrix.{score, Asked, MatrixWeight, MatrixSupported, RepeatWeight, RepeatSupported, Triangle}

@@ -1,6 +1,6 @@
 -- The sets of a newcomer x: for each pair of earlier taxa i<j the set of the taxa that the table joins with x against i and j, as a number,
 -- at C(j,2) + i. And what a trial asks of them.
-use Rattle.std.specs.Prelude.{ℕ, ◌+◌, ◌*◌, ◌^◌, ◌≤◌, ◌<◌, ◌≡◌, ◌≢◌, Bool, true, cond, ◌&&◌, List, eqb, ltb, length, get_or, set}
+use Rattle.std.specs.Prelude.{ℕ, ◌+◌, ◌*◌, ◌^◌, ◌<◌, ◌≡◌, Bool, true, cond, ◌&&◌, List, eqb, ltb, length, get_or, set}
 use Rattle.std.specs.Int.Bits.{bit_and, bit_or}
 use Rattle.statement.specs.Cluster.{bit}
 use Rattle.statement.specs.Table.{choose, place}

@@ -13,7 +13,7 @@ use lib.ListN.{length, get_or, length-map, get_or-map}
 use borrow.Author.Tests.{eqb-true, eq-eqb, ne_eqb, not-true}
 use Rattle.statement.specs.Cluster.{bit, In, Out}
 use Rattle.statement.specs.Lowest.{lowest}
-use Rattle.statement.specs.Rows.{Row, row, weights}
+use Rattle.statement.specs.Rows.{Row, row}
 use Rattle.statement.specs.Tree.{Tree, numbers, root, cluster_at, strictly_in, link_of, home_of, tree_of, up, walk, cluster_of, rows_of_tree}
 use Rattle.statement.specs.Bytes.{tree_in}
 use Rattle.statement.specs.Refusals.{AllPassed, tree_checks}

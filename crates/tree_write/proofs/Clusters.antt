@@ -11,7 +11,7 @@ use lib.Dec.{eqb}
 use lib.ListN.{length, get_or, get_or-map}
 use borrow.Author.Tests.{eq-eqb, ne_eqb, le-leb}
 use Rattle.statement.specs.Cluster.{bit, In, Out}
-use Rattle.statement.specs.Rows.{Row, row, clusters, weights, Ascending}
+use Rattle.statement.specs.Rows.{Row, row, clusters, Ascending}
 use Rattle.statement.specs.Tree.{numbers, root, cluster_at, link_of, home_of, tree_of, up, walk, on_walk, cluster_of, insert_row, sort_rows, rows_of_tree}
 use Rattle.statement.proofs.Bits.{zero_or_one, bit_ext}
 use Rattle.statement.proofs.Groups.{group_below, group_bit, Strictly}

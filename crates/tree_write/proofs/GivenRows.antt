@@ -7,7 +7,7 @@ use lib.ListN.{length, get_or}
 use lib.Pow.{pow_mono}
 use Rattle.statement.specs.declared.Splits.{Splits}
 use Rattle.statement.specs.Matrix.{weight_limit}
-use Rattle.statement.specs.Rows.{clusters, weights, rows_of, WellFormed}
+use Rattle.statement.specs.Rows.{rows_of, WellFormed}
 use Rattle.statement.proofs.Walks.{cluster_range}
 use Rattle.statement.proofs.WellFormed.{Roomy, clusters_front, rows_length}
 use Rattle.tree_write.specs.Vertices.{ClustersOf}

@@ -14,7 +14,7 @@ use Rattle.statement.specs.declared.Splits.{Splits}
 use Rattle.statement.specs.declared.Reading.{Reading}
 use Rattle.statement.specs.declared.Outcome.TheVariants.{Done}
 use Rattle.statement.specs.Matrix.{weight_limit}
-use Rattle.statement.specs.Rows.{Row, clusters, weights, Mem, rows_of, list_of}
+use Rattle.statement.specs.Rows.{Row, weights, Mem, rows_of, list_of}
 use Rattle.statement.specs.Tree.{Tree, root, cluster_at, home_of, tree_of, walk, cluster_of, rows_of_tree}
 use Rattle.statement.specs.Bytes.{tree_body, tree_in, tree_length}
 use Rattle.statement.specs.Refusals.{Passed, AllPassed, outcome_of, length_off, tree_fits, tree_off, weight_off, walk_off, home_off, edge_off, twin_off, tree_checks}

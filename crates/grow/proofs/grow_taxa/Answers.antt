@@ -27,11 +27,14 @@ pub parents-p-requires : goal.parents-p-requires
 parents-p-requires c =
     let l = c.loop-t in
     let a = c.args in
-    let w = l.invariant.0.well in record { taxa_bound = (
+    let w = l.invariant.0.well in record {
+      taxa_bound = (
         omega (arith, c.loop-t-test.true, c.requires.0.few),
         omega (arith, w.few, w.taxa, c.requires.0.few),
         one_bare a.kind a.n a.entries.now a.bytes.now c.requires.0 l.t c.loop-t-test.true w,
-      ); s_len_bound = given_room a.kind a.n a.entries.now a.bytes.now c.requires.0 l.t c.loop-t-test.true w }
+      );
+      s_len_bound = given_room a.kind a.n a.entries.now a.bytes.now c.requires.0 l.t c.loop-t-test.true w;
+    }
 
 pub overflow_mul-cost : goal.overflow_mul-cost
 overflow_mul-cost c =
@@ -102,14 +105,17 @@ add_taxon-t-requires c =
     list_few a.kind a.n a.entries.now a.bytes.now c.requires.0 l.t c.loop-t-test.true l.invariant.0.well _ (given) in
     let l = c.loop-t in
     let a = c.args in
-    let t = c.loop-t-test.true in record { source = (
+    let t = c.loop-t-test.true in record {
+      source = (
         c.requires.0,
         list_more a.kind a.n a.entries.now a.bytes.now c.requires.0 l.t t l.invariant.0.well _ (given),
         few,
         list_up a.kind a.n a.entries.now a.bytes.now c.requires.0 l.t t l.invariant.0.well _ (given),
         omega (arith, (given).taxa, l.invariant.0.well.one),
         c.prepare.ensures.2,
-      ); s_len_bound = list_room a.kind a.n a.entries.now a.bytes.now c.requires.0 l.t t l.invariant.0.well _ (given) }
+      );
+      s_len_bound = list_room a.kind a.n a.entries.now a.bytes.now c.requires.0 l.t t l.invariant.0.well _ (given);
+    }
 
 -- one taxon more
 pub loop-t-smaller : goal.loop-t-smaller

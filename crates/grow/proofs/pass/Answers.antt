@@ -1,5 +1,5 @@
 -- `grow::pass` meets its contract: the rows not yet passed, kept and pushed, complete the pass.
-use Prim.Native.Nat.{suc, ◌-◌}
+use Prim.Native.Nat.{suc}
 use native.Mathlib.Omega.{arith}
 use mathlib.Core.Path.{◌≡◌}
 use lib.ListN.{length}
@@ -24,8 +24,11 @@ offer-count-requires c =
     let hc : length c.args.old.clusters ≡ 125 = search rules in
     let hw : length c.args.old.weights ≡ 125 = search rules in
     record { clusters = hc; weights = hw; rows = c.requires.source.4 } in
-    let a = c.args in record { source = (c.requires.source.0, c.requires.source.1, c.requires.source.2, c.requires.source.3); w_bound = passing_room (trial_by a.kind a.n a.entries.now a.bytes.now (suc a.k) a.k) a.b a.old (list_in (suc a.k) a.rows a.clusters.now a.weights.now)
-          (list_in (suc a.k) c.loop-i.count c.loop-i.clusters c.loop-i.weights) c.loop-i.i (roomy) c.loop-i-test.true c.loop-i.invariant }
+    let a = c.args in record {
+      source = (c.requires.source.0, c.requires.source.1, c.requires.source.2, c.requires.source.3);
+      w_bound = passing_room (trial_by a.kind a.n a.entries.now a.bytes.now (suc a.k) a.k) a.b a.old (list_in (suc a.k) a.rows a.clusters.now a.weights.now)
+          (list_in (suc a.k) c.loop-i.count c.loop-i.clusters c.loop-i.weights) c.loop-i.i (roomy) c.loop-i-test.true c.loop-i.invariant;
+    }
 
 pub loop-i-preserved : goal.loop-i-preserved
 loop-i-preserved c =

@@ -1,5 +1,4 @@
 -- `lone_weights::newcomer` meets its contract: each z passed, with the taxa below it.
-use Prim.Native.Nat.{◌-◌}
 use native.Mathlib.Omega.{arith}
 use mathlib.Core.Path.{◌≡◌}
 use Rattle.lone_weights.proofs.Lowering.{lowered_most, begun_none, begun_turn, lone_newcomer}

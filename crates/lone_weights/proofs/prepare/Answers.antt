@@ -1,5 +1,5 @@
 -- `lone_weights::prepare` meets its contract: the taxa passed are taken in.
-use Prim.Native.Nat.{◌+◌, ◌-◌}
+use Prim.Native.Nat.{◌+◌}
 use native.Mathlib.Omega.{arith}
 use mathlib.Core.Path.{◌≡◌}
 use Rattle.lone_weights.proofs.prepare.Goals as goal

@@ -1,5 +1,4 @@
 -- `lone_weights::row` meets its contract: the least over the y passed.
-use Prim.Native.Nat.{◌-◌}
 use native.Mathlib.Omega.{arith}
 use mathlib.Core.Path.{◌≡◌}
 use Rattle.lone_weights.proofs.Lowering.{row_none, row_turn}

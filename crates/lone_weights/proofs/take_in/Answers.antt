@@ -1,5 +1,5 @@
 -- `lone_weights::take_in` meets its contract: the weights passed are those with the taxon j.
-use Prim.Native.Nat.{◌-◌, ◌<◌}
+use Prim.Native.Nat.{◌<◌}
 use native.Mathlib.Omega.{arith}
 use native.Mathlib.Nat.{le_refl}
 use mathlib.Core.Path.{◌≡◌}

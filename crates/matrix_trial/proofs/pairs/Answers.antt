@@ -1,5 +1,4 @@
 -- `matrix_trial::pairs` meets its contract: the least over the taxa passed.
-use Prim.Native.Nat.{◌-◌}
 use native.Mathlib.Omega.{arith}
 use mathlib.Core.Path.{◌≡◌}
 use Rattle.matrix_trial.proofs.Separated.{paired_none, paired_turn}

@@ -1,5 +1,5 @@
 -- `matrix_trial::sweep` meets its contract: the weight is the least over the pairs of the taxa passed.
-use Prim.Native.Nat.{◌+◌, ◌-◌, ◌<◌}
+use Prim.Native.Nat.{◌+◌, ◌<◌}
 use native.Mathlib.Omega.{arith}
 use mathlib.Core.Path.{refl}
 use lib.ListN.{length, set, length-set}

@@ -1,5 +1,4 @@
 -- `neighbours::fails_with_xy` meets its contract.
-use Prim.Native.Nat.{◌-◌}
 use mathlib.Core.Path.{sym}
 use mathlib.Core.Bool.{true≢false}
 use Rattle.neighbours.proofs.fails_with_xy.Goals as goal

@@ -1,5 +1,4 @@
 -- `neighbours::nearest` meets its contract: the nearest of the taxa passed.
-use Prim.Native.Nat.{◌-◌}
 use native.Mathlib.Omega.{arith}
 use mathlib.Core.Path.{◌≡◌}
 use Rattle.neighbours.proofs.Looks.{nearest_one}

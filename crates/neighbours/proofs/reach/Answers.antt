@@ -1,5 +1,4 @@
 -- `neighbours::reach` meets its contract: the least over the x passed.
-use Prim.Native.Nat.{◌-◌}
 use native.Mathlib.Omega.{arith}
 use mathlib.Core.Path.{◌≡◌, ◌∙◌}
 use Rattle.neighbours.proofs.Reaches.{pull_cap, reach_none, reach_turn}

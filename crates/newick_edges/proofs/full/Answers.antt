@@ -1,7 +1,6 @@
 -- All bits of n, or of 64.
 use native.Mathlib.Omega.{arith}
 use lib.Pow.{pow_pos}
-use Prim.Native.Nat.{◌-◌}
 use Rattle.newick_edges.proofs.full.Goals as goal
 
 pub returns-then-n-eq64 : goal.returns-then-n-eq64

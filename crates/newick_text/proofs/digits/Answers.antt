@@ -1,6 +1,6 @@
 -- `newick_text::digits` meets its contract: each digit passed leaves the automaton where it was.
 use mathlib.Core.Path.{refl, ◌∙◌}
-use Prim.Native.Nat.{◌≤◌, ◌<◌, ◌-◌}
+use Prim.Native.Nat.{◌≤◌, ◌<◌}
 use native.Mathlib.Omega.{arith}
 use lib.ListN.{length}
 use Rattle.newick_text.specs.Automaton.{some, over, inside}

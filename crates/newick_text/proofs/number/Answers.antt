@@ -1,6 +1,6 @@
 -- `newick_text::number` meets its contract, by its first byte.
 use mathlib.Core.Path.{◌∙◌}
-use Prim.Native.Nat.{◌≤◌, ◌<◌, ◌-◌}
+use Prim.Native.Nat.{◌≤◌, ◌<◌}
 use native.Mathlib.Omega.{arith}
 use lib.ListN.{length}
 use Rattle.newick_text.proofs.Laws.{digit_low, digit_high, num_zero, num_none, num_some, inside'}

@@ -1,6 +1,6 @@
 -- `newick_text::tail` meets its contract: a colon, then a number.
 use mathlib.Core.Path.{◌≡◌, refl, ◌∙◌}
-use Prim.Native.Nat.{ℕ, ◌≤◌, ◌<◌, ◌-◌}
+use Prim.Native.Nat.{ℕ, ◌≤◌, ◌<◌}
 use native.Mathlib.Omega.{arith}
 use lib.ListN.{length}
 use Rattle.newick_text.specs.Automaton.{weight, want, place_of}

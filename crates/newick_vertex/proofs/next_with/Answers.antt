@@ -1,5 +1,4 @@
 -- `newick_vertex::next_with` meets its contract: no place passed holds the number.
-use Prim.Native.Nat.{◌-◌}
 use native.Mathlib.Omega.{arith}
 use mathlib.Core.Path.{◌≡◌, refl, ◌∙◌}
 use lib.Dec.{eqb}

@@ -1,5 +1,4 @@
 -- What is left of the tokens; each turn takes one.
-use Prim.Native.Nat.{◌-◌}
 use native.Mathlib.Omega.{arith}
 use mathlib.Core.Path.{sym, ◌∙◌}
 use Rattle.newick_walk.specs.Machine.{walk_in, start_spot}

@@ -1,5 +1,5 @@
 -- `parents::pass_below` meets its contract: the rows passed are pushed.
-use Prim.Native.Nat.{◌-◌, ◌<◌}
+use Prim.Native.Nat.{◌<◌}
 use native.Mathlib.Omega.{arith}
 use Rattle.statement.specs.Rows.{list_in}
 use Rattle.parents.proofs.Laws.{given_roomy, passed_none, passed_room, passed_turn}

@@ -1,5 +1,5 @@
 -- `parents::push_rest` meets its contract: the rows not yet pushed complete it.
-use Prim.Native.Nat.{◌-◌, ◌<◌}
+use Prim.Native.Nat.{◌<◌}
 use mathlib.Core.Path.{◌≡◌}
 use lib.ListN.{length}
 use Rattle.statement.specs.Rows.{list_in}

@@ -1,5 +1,4 @@
 -- `parents::with_trivial` meets its contract: the trivial splits passed are put in.
-use Prim.Native.Nat.{◌-◌}
 use native.Mathlib.Omega.{arith}
 use mathlib.Core.Path.{◌≡◌}
 use lib.ListN.{length}

@@ -1,5 +1,4 @@
 -- `paths::put_sums` meets its contract: each entry passed holds the sum of the rows that part its taxa.
-use Prim.Native.Nat.{◌-◌}
 use native.Mathlib.Omega.{arith}
 use mathlib.Core.Path.{◌≡◌, refl, ◌∙◌}
 use lib.ListN.{length, length-set}

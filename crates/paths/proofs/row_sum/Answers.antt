@@ -1,5 +1,5 @@
 -- `paths::row_sum` meets its contract: the sum so far and what the rows left add are the whole.
-use Prim.Native.Nat.{ℕ, ◌+◌, ◌-◌}
+use Prim.Native.Nat.{ℕ, ◌+◌}
 use native.Mathlib.Omega.{arith}
 use mathlib.Core.Path.{◌≡◌, ap}
 use lib.ListN.{drop}

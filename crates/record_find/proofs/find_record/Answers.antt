@@ -1,6 +1,5 @@
 -- `record_find::find_record` meets its contract, one check after the other.
 use Rattle.std.proofs.Common.{◌≡◌, ℕ, ◌≤◌, List, take, drop, sym, refl, ap, ◌∙◌, ⊎_elim, true≢false, arith, length-take-le, eq-eqb, eqb-true}
-use borrow.Author.Tests.{not-true, eqb-false}
 use Rattle.statement.specs.Bytes.{word_sum}
 use Rattle.statement.specs.Refusals.{outcome_of}
 use Rattle.statement.specs.Record.{kinds, fits_kind, kind_in, taxa_in, length_in, record_length, pad_in, record_checks}
@@ -28,7 +27,7 @@ returns-then-bytes-ne83 c =
     begun _ ∙ first_passed _ _ ((cut_passed c.args.bytes.now 8).1 c.if-bytes-lt8.false) in
     sym (past-header ∙ refused_unless 15 _ _ (mark_passed c.args.bytes.now)
     (λ e. elim c.then-bytes-ne83.branch [
-      then-bytes-ne83-via-then-bytes-ne83 w ↦ w.if-bytes-ne83.true e.0
+      | then-bytes-ne83-via-then-bytes-ne83 w ↦ w.if-bytes-ne83.true e.0
       | then-bytes-ne83-via-else-bytes-ne83+then-bytes-ne112 w ↦ w.if-bytes-ne112.true e.1
     ]))
 
@@ -127,7 +126,7 @@ returns-then-not-pad_is_zero c =
     past-length ∙ first_passed _ _ ((cut_passed c.args.bytes.now _).1 (rw whole at c.if-bytes-whole.false)) in
     sym (past-whole ∙ refused_unless 18 _ _ (sum_passed (pad_in c.args.bytes.now) _)
     (λ e. elim c.then-not-pad_is_zero.branch [
-      then-not-pad_is_zero-via-then-not-pad_is_zero w ↦ true≢false (sym (eq-eqb _ _ e.0) ∙ sym c.pad_is_zero.ensures ∙ w.if-not-pad_is_zero.true)
+      | then-not-pad_is_zero-via-then-not-pad_is_zero w ↦ true≢false (sym (eq-eqb _ _ e.0) ∙ sym c.pad_is_zero.ensures ∙ w.if-not-pad_is_zero.true)
       | then-not-pad_is_zero-via-else-not-pad_is_zero+then-word_sum-ne0 w ↦ w.if-word_sum-ne0.true (rw whole at w.word_sum.ensures ∙ e.1)
     ]))
 

@@ -1,5 +1,5 @@
 -- `record_find::word_sum` meets its contract: the sum so far and the words that remain add to the whole.
-use Rattle.std.proofs.Common.{◌-◌, arith, rules}
+use Rattle.std.proofs.Common.{arith, rules}
 use Rattle.record_find.proofs.Words.{total_step, total_end}
 use Rattle.record_find.proofs.word_sum.Goals as goal
 

@@ -1,5 +1,5 @@
 -- `record_write::put_body` meets its contract, a byte at a time.
-use Rattle.std.proofs.Common.{◌≡◌, ◌-◌, length, refl, ap, ◌∙◌, arith, length-set}
+use Rattle.std.proofs.Common.{◌≡◌, length, refl, ap, ◌∙◌, arith, length-set}
 use lib.Seq.{paste, paste-zero}
 use Rattle.record_write.proofs.Stores.{put_more}
 use Rattle.record_write.proofs.put_body.Goals as goal

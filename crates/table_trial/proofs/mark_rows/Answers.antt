@@ -1,5 +1,4 @@
 -- `table_trial::mark_rows` meets its contract: the rows passed are done.
-use Prim.Native.Nat.{◌-◌}
 use native.Mathlib.Omega.{arith}
 use mathlib.Core.Path.{◌≡◌}
 use Rattle.table.proofs.Choose.{choose_none, choose_one, choose_more, place_below}

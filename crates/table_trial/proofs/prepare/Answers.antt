@@ -1,5 +1,4 @@
 -- `table_trial::prepare` meets its contract: the fours with a greatest earlier taxon that is passed are done.
-use Prim.Native.Nat.{◌-◌}
 use native.Mathlib.Omega.{arith}
 use Rattle.table.proofs.Choose.{choose_none}
 use Rattle.table_trial.proofs.Marks.{filled_none, prepared}

@@ -1,5 +1,4 @@
 -- `table_trial::rows_hold` meets its contract: the rows passed hold the side.
-use Prim.Native.Nat.{◌-◌}
 use native.Mathlib.Omega.{arith}
 use mathlib.Core.Path.{◌≡◌, sym}
 use mathlib.Core.Bool.{true≢false}

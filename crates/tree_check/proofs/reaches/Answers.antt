@@ -1,5 +1,5 @@
 -- The places of the walk before step s are not the root.
-use Prim.Native.Nat.{suc, ◌-◌}
+use Prim.Native.Nat.{suc}
 use native.Mathlib.Omega.{arith}
 use mathlib.Core.Path.{refl, sym, ◌∙◌}
 use lib.Dec.{eqb}

@@ -1,5 +1,4 @@
 -- The clusters of the first i taxa.
-use Prim.Native.Nat.{◌-◌}
 use native.Mathlib.Omega.{arith}
 use mathlib.Core.Path.{◌≡◌, refl, sym, ◌∙◌, ap}
 use lib.ListN.{length, get_or-replicate}

@@ -1,12 +1,10 @@
 -- The edges passed are v itself or have other clusters.
-use Prim.Native.Nat.{◌-◌}
 use native.Mathlib.Omega.{arith}
 use borrow.Author.Count.{below_none, below_more}
 use mathlib.Core.Path.{sym}
 use mathlib.Core.Bool.{not, ◌&&◌}
 use lib.Dec.{eqb}
 use lib.ListN.{get_or}
-use mathlib.Core.Logic.{⊎_elim}
 use Rattle.statement.proofs.Lowest.{some_at, none_at}
 use Rattle.tree_read.proofs.Twins.{twin, itself, other}
 use Rattle.tree_read.proofs.has_twin.Goals as goal
@@ -29,7 +27,7 @@ loop-w-preserved c =
       omega arith,
       below_more _ _ c.loop-w.invariant.1
           (elim c.if-v-w.branch [
-            then-v-w+else-clusters-v w ↦ other cs a.v c.loop-w.w w.if-v-w.true w.if-clusters-v.false
+            | then-v-w+else-clusters-v w ↦ other cs a.v c.loop-w.w w.if-v-w.true w.if-clusters-v.false
             | else-v-w w ↦ itself cs a.v c.loop-w.w w.if-v-w.false
           ]),
     )

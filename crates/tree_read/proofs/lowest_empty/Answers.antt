@@ -1,5 +1,4 @@
 -- The edges passed have taxa beyond them.
-use Prim.Native.Nat.{◌-◌}
 use native.Mathlib.Omega.{arith}
 use borrow.Author.Count.{below_none, below_more}
 use lib.Dec.{eqb}

@@ -1,8 +1,7 @@
 -- The edges among the first s places of the walk are marked.
-use Prim.Native.Nat.{suc, ◌-◌}
+use Prim.Native.Nat.{suc}
 use native.Mathlib.Omega.{arith}
 use mathlib.Core.Path.{◌≡◌, refl}
-use mathlib.Core.Logic.{⊎_elim}
 use lib.ListN.{length}
 use Rattle.statement.specs.Tree.{walk}
 use Rattle.tree_check.specs.Parts.{linked}
@@ -24,7 +23,7 @@ loop-s-preserved c =
       omega arith,
       walk_next (linked links) c.loop-s.s a.home c.loop-s.at _ at c.step_up-at.ensures,
       elim c.if-at-m.branch [
-        then-at-m+then-marked-at w ↦ rw w.marked-is (mark_put at marked w.if-at-m.true (c.requires.by_index _ w.if-at-m.true) (omega arith) w.if-marked-at.true)
+        | then-at-m+then-marked-at w ↦ rw w.marked-is (mark_put at marked w.if-at-m.true (c.requires.by_index _ w.if-at-m.true) (omega arith) w.if-marked-at.true)
         | then-at-m+else-marked-at w ↦ rw w.marked-is (mark_kept at marked w.if-at-m.true (c.requires.by_index _ w.if-at-m.true) w.if-marked-at.false)
         | else-at-m w ↦ rw w.marked-is (mark_root at marked w.if-at-m.false)
       ],

@@ -58,14 +58,14 @@ returns-then-bare-m c =
     (accepted_exactly (first_checks c.args.n c.args.body.now)).0 c.requires in
     let clusters-read : (let a = c.args in Read a.n a.body.now c.vertex-m.result c.clusters_of-clusters.result) =
     record {
-  passed = passed;
-  first = c.vertex-m.ensures;
-  links = _;
-  homes = _;
-  links_part = c.links_in.ensures;
-  homes_part = c.homes_in.ensures;
-  made = c.clusters_of-clusters.ensures;
-} in
+      passed = passed;
+      first = c.vertex-m.ensures;
+      links = _;
+      homes = _;
+      links_part = c.links_in.ensures;
+      homes_part = c.homes_in.ensures;
+      made = c.clusters_of-clusters.ensures;
+    } in
     let a = c.args in
     c.refused.ensures ∙ bare_refused a.n a.body.now _ _ clusters-read _ c.lowest_empty-bare.ensures c.if-bare-m.true
 
@@ -83,14 +83,14 @@ returns-then-twin-m c =
     (accepted_exactly (first_checks c.args.n c.args.body.now)).0 c.requires in
     let clusters-read : (let a = c.args in Read a.n a.body.now c.vertex-m.result c.clusters_of-clusters.result) =
     record {
-  passed = passed;
-  first = c.vertex-m.ensures;
-  links = _;
-  homes = _;
-  links_part = c.links_in.ensures;
-  homes_part = c.homes_in.ensures;
-  made = c.clusters_of-clusters.ensures;
-} in
+      passed = passed;
+      first = c.vertex-m.ensures;
+      links = _;
+      homes = _;
+      links_part = c.links_in.ensures;
+      homes_part = c.homes_in.ensures;
+      made = c.clusters_of-clusters.ensures;
+    } in
     let full : (let a = c.args in Passed (edge_off a.n (tree_in a.n a.body.now))) =
     let a = c.args in
     none_bare a.n a.body.now _ _ clusters-read _ c.lowest_empty-bare.ensures c.if-bare-m.false in
@@ -129,14 +129,14 @@ returns c =
     (accepted_exactly (first_checks c.args.n c.args.body.now)).0 c.requires in
     let clusters-read : (let a = c.args in Read a.n a.body.now c.vertex-m.result c.clusters_of-clusters.result) =
     record {
-  passed = passed;
-  first = c.vertex-m.ensures;
-  links = _;
-  homes = _;
-  links_part = c.links_in.ensures;
-  homes_part = c.homes_in.ensures;
-  made = c.clusters_of-clusters.ensures;
-} in
+      passed = passed;
+      first = c.vertex-m.ensures;
+      links = _;
+      homes = _;
+      links_part = c.links_in.ensures;
+      homes_part = c.homes_in.ensures;
+      made = c.clusters_of-clusters.ensures;
+    } in
     let full : (let a = c.args in Passed (edge_off a.n (tree_in a.n a.body.now))) =
     let a = c.args in
     none_bare a.n a.body.now _ _ clusters-read _ c.lowest_empty-bare.ensures c.if-bare-m.false in

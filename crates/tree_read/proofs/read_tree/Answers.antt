@@ -1,8 +1,6 @@
 -- Refused before the clusters, or read.
-use mathlib.Core.Logic.{⊎_elim}
 use Rattle.tree_check.specs.Parts.{first_checks}
 use Rattle.tree_read.proofs.Replies.{first_refused, not_refused}
-use native.Mathlib.Omega.{arith}
 use mathlib.Core.Path.{sym, ◌∙◌}
 use Rattle.tree_read.proofs.read_tree.Goals as goal
 

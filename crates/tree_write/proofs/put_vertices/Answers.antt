@@ -1,5 +1,5 @@
 -- `tree_write::put_vertices` meets its contract: the vertices passed are pasted.
-use Prim.Native.Nat.{◌+◌, ◌-◌}
+use Prim.Native.Nat.{◌+◌}
 use native.Mathlib.Omega.{arith}
 use mathlib.Core.Path.{◌≡◌, refl, ◌∙◌, ap}
 use lib.ListN.{length, length-set}
@@ -25,14 +25,13 @@ vertex_at-requires c =
     record { i_bound = (omega arith, (room).rows, c.requires.0); by_index = λ j l. cluster_small c.args.s (room) c.args.n j c.requires.1 l }
 
 pub loop-i-preserved : goal.loop-i-preserved
-loop-i-preserved c =
-    (
-      omega arith,
-      length-set c.loop-i.out _ _ ∙ c.loop-i.invariant.1,
-      λ rows these.
-          one_more c.args.out.now (vertices (tree_of c.args.n rows)) c.loop-i.out 1 c.loop-i.i _ (omega arith)
-          (omega (arith, vertices_length c.args.n rows, these.count)) (c.loop-i.invariant.2 rows these) (c.vertex_at.ensures rows these),
-    )
+loop-i-preserved c = (
+  omega arith,
+  length-set c.loop-i.out _ _ ∙ c.loop-i.invariant.1,
+  λ rows these.
+      one_more c.args.out.now (vertices (tree_of c.args.n rows)) c.loop-i.out 1 c.loop-i.i _ (omega arith)
+      (omega (arith, vertices_length c.args.n rows, these.count)) (c.loop-i.invariant.2 rows these) (c.vertex_at.ensures rows these),
+)
 
 pub returns : goal.returns
 returns c =

@@ -1,5 +1,5 @@
 -- `tree_write::put_weights` meets its contract: the weights passed are pasted, four bytes each.
-use Prim.Native.Nat.{◌*◌, ◌-◌}
+use Prim.Native.Nat.{◌*◌}
 use native.Mathlib.Omega.{arith}
 use mathlib.Core.Path.{◌≡◌, refl, sym, ◌∙◌, ap}
 use lib.Seq.{paste, paste-zero}

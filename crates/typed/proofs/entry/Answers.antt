@@ -25,12 +25,11 @@ typed_value c =
     let a = c.args in
     let text = a.text.now in
     let either : (a.full ≡ true) ⊎ (eqb (a.e / a.n) (a.e % a.n) ≡ false) =
-        elim c.else-not-full.branch [
-          else-not-full-via-then-not-full+else-e-n w ↦ inr (ne_eqb _ _ w.if-e-n.false) |
-          else-not-full-via-else-not-full w ↦ inl w.if-not-full.false
-        ]
-    in
-    (
+    elim c.else-not-full.branch [
+      | else-not-full-via-then-not-full+else-e-n w ↦ inr (ne_eqb _ _ w.if-e-n.false)
+      | else-not-full-via-else-not-full w ↦ inl w.if-not-full.false
+    ]
+    in (
       entry_typed a.n (values_in text) a.e c.requires.2 a.full (sym c.requires.4) either
           ∙ ap (λ (k : ℕ). get_or (values_in text) k 0) (sym c.value_for.ensures.0) ∙ value_is text c.value_for.result,
       numbers_small text c.requires.3 (1 + c.value_for.result),

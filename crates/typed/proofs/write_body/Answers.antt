@@ -32,12 +32,11 @@ returns-then-out-n c =
     record { value = told.0; out_after = told.1 }
 
 pub put_body-requires : goal.put_body-requires
-put_body-requires c =
-    (
-      some_taken c.args.text.now c.check-said.result c.taxa_of-n.result c.check-said.ensures
-          c.taxa_of-n.ensures c.if-n-eq0.false,
-      c.if-out-n.false,
-    )
+put_body-requires c = (
+  some_taken c.args.text.now c.check-said.result c.taxa_of-n.result c.check-said.ensures
+      c.taxa_of-n.ensures c.if-n-eq0.false,
+  c.if-out-n.false,
+)
 
 pub returns : goal.returns
 returns c =
