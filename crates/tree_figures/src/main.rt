@@ -94,7 +94,7 @@ fn written(n: usize, list: Splits, len: usize) -> Body {
 }
 
 fn same_bytes(a: [u8; 64], b: [u8; 64]) -> bool {
-    check::same(&a, &b)
+    a == b
 }
 
 // 0 where a list written, read and written again gives the list and the same bytes; else 1.
