@@ -105,13 +105,7 @@ fn write_typed(text: &[u8], n: usize, body: &mut [u8], out: &mut [u8]) -> Outcom
 }
 
 // That record to standard output, or what the matrix is refused for.
-fn send(
-    rt: &impl Print,
-    text: &[u8],
-    n: usize,
-    body: &mut [u8],
-    out: &mut [u8],
-) -> io::Result<()>
+fn send(rt: &impl Print, text: &[u8], n: usize, body: &mut [u8], out: &mut [u8]) -> io::Result<()>
     requires { (Matrix n ≡ said_of text.now) × (length body.old ≡ 4 * (n * n)) }
 {
     let said = write_typed(text, n, body, out);

@@ -24,7 +24,10 @@ fn input_reason(rt: &impl Print, no: u8) -> io::Result<()> {
 // Why a tree is refused, numbers 9 to 14.
 fn tree_reason(rt: &impl Print, no: u8) -> io::Result<()> {
     if no == 9 {
-        say(rt, b"a link or home is above m, or m disagrees with the length")
+        say(
+            rt,
+            b"a link or home is above m, or m disagrees with the length",
+        )
     } else if no == 10 {
         say(rt, b"the walk up from this vertex never reaches the root")
     } else if no == 11 {

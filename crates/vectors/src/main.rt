@@ -4,8 +4,8 @@
 #![tactic(auto)]
 
 use statement::Step;
-use std::rt::Files;
 use std::io;
+use std::rt::Files;
 
 // What a walker says at a place; the place behind it, or 65,536 where it stops.
 fn step(rt: &impl Print, file: &[u8], place: usize) -> io::Result<usize> {
