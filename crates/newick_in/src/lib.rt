@@ -2,12 +2,11 @@
 #![tactic(auto)]
 
 ghost use Rattle.std.specs.Prelude.{◌≡◌, ◌⊎◌, ◌≤◌, IfOk, length, take, get_or};
-ghost use Rattle.io.specs.Counts.{IsPrefixLen};
 ghost use Rattle.statement.specs.declared.Outcome.TheVariants.{Done};
 ghost use Rattle.statement.specs.Record.{record_length};
 ghost use Rattle.statement.specs.Calls.{write_tree};
 ghost use Rattle.numerals.specs.Numerals.{numbers_in};
-ghost use Rattle.newick_in.specs.Records.{Covers, record_of_list, record_of_text};
+ghost use Rattle.newick_in.specs.Records.{Covers, IsPrefixLen, record_of_list, record_of_text};
 
 use statement::{Outcome, Splits};
 use std::io;
