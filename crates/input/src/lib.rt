@@ -1,15 +1,20 @@
 // Reading bytes: a buffer is filled from its start, as far as there are bytes.
 #![tactic(auto)]
 
+ghost use Rattle.std.specs.Prelude.{◌≡◌, ◌<◌, IfOk, length, take};
 ghost use Rattle.std.specs.Io.{ReadsAtMost};
+ghost use Rattle.std.specs.Io.KnownBytes.{Consumes, IsAtEnd};
 
 use std::io::{ErrorKind, Read};
 use std::rt::Files;
 use std::{fs, io, str};
 
-// Reads until the buffer is full or the reader ends: how many bytes are at the start of the buffer. On an empty buffer it makes no call.
-pub fn read_full(reader: &mut impl Read, buf: &mut [u8]) -> io::Result<usize>
-    ensures { ReadsAtMost result buf.new }
+// Reads until the buffer is full or the reader ends: how many bytes are at the start of the buffer. On an empty buffer it makes no call. Of a reader
+// whose bytes are known, these are its next ones, and it is at its end where the buffer is not full.
+pub fn read_full<R: Read>(reader: &mut R, buf: &mut [u8]) -> io::Result<usize>
+    ensures bound { ReadsAtMost result buf.new }
+    ensures bytes { IfOk result (λ n. Consumes (R.remaining reader.old) (R.remaining reader.new) (take n buf.new)) }
+    ensures end { IfOk result (λ n. n < length buf.new → IsAtEnd (R.remaining reader.new)) }
 {
     let mut done: usize = 0;
     while done < buf.len() {
