@@ -1,5 +1,4 @@
 -- `brute::is_grown` is safe, ends, and says yes only to a list of n taxa.
-use Prim.Native.Nat.{◌-◌}
 use mathlib.Core.Bool.{false≢true}
 use Rattle.brute.proofs.is_grown.Goals as goal
 

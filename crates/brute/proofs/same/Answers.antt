@@ -1,5 +1,4 @@
 -- `brute::same` is safe, ends, and says yes only to as many rows.
-use Prim.Native.Nat.{◌-◌}
 use mathlib.Core.Bool.{false≢true}
 use Rattle.brute.proofs.same.Goals as goal
 
