@@ -18,13 +18,11 @@ fn verdict(rt: &impl Print, said: Outcome) -> io::Result<()> {
 
 // The taxa of a group.
 fn taxa(rt: &impl Print, cluster: u64) -> io::Result<()> {
-    let mut i: usize = 0;
-    while i < 64 {
+    for i in 0..64usize {
         if (cluster >> i) % 2 == 1 {
             say(rt, b" ")?;
             number(rt, i as u64)?;
         }
-        i += 1;
     }
     Ok(())
 }
@@ -41,12 +39,10 @@ fn group(rt: &impl Print, list: Splits, i: usize) -> io::Result<()> {
 }
 
 fn groups(rt: &impl Print, list: Splits) -> io::Result<()> {
-    let mut i: usize = 0;
-    while i < 125 {
+    for i in 0..125 {
         if i < list.rows {
             group(rt, list, i)?;
         }
-        i += 1;
     }
     Ok(())
 }
