@@ -6,19 +6,20 @@
 ghost use Rattle.std.specs.Prelude.{◌<◌, ◌≤◌};
 
 use statement::{Growth, Splits};
+use std::io;
 
 // n below 2 and above 64; the largest distance taken, and one more; the table of three taxa; all zeros at 64.
-fn edges() {
+fn edges(rt: &impl Print) -> io::Result<()> {
     let zeros = [0u32; 4225];
-    print::growth(run::run_matrix(1, &zeros[..1]));
-    print::growth(run::run_matrix(65, &zeros));
+    print::growth(rt, run::run_matrix(1, &zeros[..1]))?;
+    print::growth(rt, run::run_matrix(65, &zeros))?;
     let far = [0u32, 1000000, 1000000, 0];
-    print::growth(run::run_matrix(2, &far));
+    print::growth(rt, run::run_matrix(2, &far))?;
     let farther = [0u32, 1000001, 1000001, 0];
-    print::growth(run::run_matrix(2, &farther));
+    print::growth(rt, run::run_matrix(2, &farther))?;
     let bytes = [0u8; 1];
-    print::growth(run::run_table(3, &bytes[..0]));
-    print::growth(run::run_matrix(64, &zeros[..4096]));
+    print::growth(rt, run::run_table(3, &bytes[..0]))?;
+    print::growth(rt, run::run_matrix(64, &zeros[..4096]))
 }
 
 // Distances of seven primates, times 100,000 (test distances of PHYLIP 3.697).
@@ -54,14 +55,14 @@ fn comb_matrix() -> [u32; 4096] {
     d
 }
 
-fn comb() {
+fn comb(rt: &impl Print) -> io::Result<()> {
     let d = comb_matrix();
     let g = run::run_matrix(64, &d);
-    print::say(b"comb: rows ");
-    print::number(g.list.rows as u64);
-    print::say(b" trials ");
-    print::number(g.trials);
-    print::say(b"\n");
+    print::say(rt, b"comb: rows ")?;
+    print::number(rt, g.list.rows as u64)?;
+    print::say(rt, b" trials ")?;
+    print::number(rt, g.trials)?;
+    print::say(rt, b"\n")
 }
 
 // What is left of a growth in parts: the list so far and the trials of all parts.
@@ -75,7 +76,7 @@ fn more(p: Parts, g: Growth) -> Parts {
     let list = g.list;
     Parts {
         list: list,
-        trials: std::num::wrapping_add_u64(p.trials, g.trials),
+        trials: p.trials.wrapping_add(g.trials),
     }
 }
 
@@ -199,7 +200,7 @@ fn case_differs(i: u64) -> u64 {
     differs
 }
 
-fn differential() {
+fn differential(rt: &impl Print) -> io::Result<()> {
     let mut count: u64 = 0;
     let mut i: u64 = 0;
     while i < 1200 {
@@ -209,15 +210,16 @@ fn differential() {
         i += 1;
     }
     print::say(
+        rt,
         b"1200 matrices, 1440 tables and 2000 carried lists; the last that differs (0: none): ",
-    );
-    print::number(count);
-    print::say(b"\n");
+    )?;
+    print::number(rt, count)?;
+    print::say(rt, b"\n")
 }
 
-fn main() {
-    edges();
-    print::growth(run::run_matrix(7, &PRIMATES));
-    comb();
-    differential();
+fn main(rt: HostRuntime) -> io::Result<()> {
+    edges(&rt)?;
+    print::growth(&rt, run::run_matrix(7, &PRIMATES))?;
+    comb(&rt)?;
+    differential(&rt)
 }

@@ -6,7 +6,6 @@ use mathlib.Core.Path.{◌≡◌, refl, sym, ◌∙◌, ap}
 use mathlib.Core.List.{List, [], ◌++◌}
 use lib.ListN.{length, take, length-append}
 use lib.Seq.{take-append_seam}
-use Rattle.io.specs.Counts.{IsPrefixLen}
 use Rattle.statement.specs.declared.Splits.{Splits}
 use Rattle.statement.specs.declared.Outcome.{Outcome}
 use Rattle.statement.specs.declared.Outcome.TheVariants.{Done, Short, Refused}
@@ -21,7 +20,7 @@ use Rattle.statement.proofs.WellFormed.{well_formed_is}
 use Rattle.statement.proofs.Outputs.{output_accepted}
 use Rattle.newick_meaning.specs.Parse.{parsed, read_newick}
 use Rattle.newick_reading.proofs.Accepted.{accepted, read_well}
-use Rattle.newick_in.specs.Records.{Covers, record_of_list, record_of_text}
+use Rattle.newick_in.specs.Records.{Covers, IsPrefixLen, record_of_list, record_of_text}
 
 -- the tree is written where the slice has its length
 pub tree_taken : (n : ℕ) (s : Splits) (out : List ℕ) → length s.clusters ≡ 125 → length s.weights ≡ 125 → Covers n s

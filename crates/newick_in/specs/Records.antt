@@ -1,5 +1,5 @@
 -- THE RECORD OF A TEXT: that of the tree of the list that it reads as; none where it is refused.
-use Rattle.std.specs.Prelude.{ℕ, ◌≤◌, ◌≡◌, List, [], ◌++◌}
+use Rattle.std.specs.Prelude.{ℕ, ◌≤◌, ◌≡◌, List, [], ◌++◌, length, take}
 use Rattle.statement.specs.declared.Splits.{Splits}
 use Rattle.statement.specs.declared.Outcome.TheVariants.{Done}
 use Rattle.statement.specs.Matrix.{weight_limit}
@@ -16,6 +16,10 @@ pub record Covers (n : ℕ) (s : Splits) : Type 0 where
   pub few : n ≤ 64
   pub well : WellFormed weight_limit n s
   pub whole : s.taxa ≡ n
+
+-- `&xs[..n]` is in bounds, and has n bytes
+abbrev pub IsPrefixLen : ℕ → List ℕ → Type 0
+IsPrefixLen n xs = (n ≤ length xs) × (n ≡ length (take n xs))
 
 abbrev pub record_of_list : ℕ → Splits → List ℕ
 record_of_list n s = record_of 3 n (tree_body (tree_of n (rows_of s)))

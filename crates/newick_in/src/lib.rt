@@ -1,15 +1,15 @@
 // A Newick text of n taxa to the record of its tree, or to one line that says what is wrong with it. Document 02, §2.
 #![tactic(auto)]
 
-ghost use Rattle.std.specs.Prelude.{◌≡◌, ◌⊎◌, ◌≤◌, length, take, get_or};
-ghost use Rattle.io.specs.Counts.{IsPrefixLen};
+ghost use Rattle.std.specs.Prelude.{◌≡◌, ◌⊎◌, ◌≤◌, IfOk, length, take, get_or};
 ghost use Rattle.statement.specs.declared.Outcome.TheVariants.{Done};
 ghost use Rattle.statement.specs.Record.{record_length};
 ghost use Rattle.statement.specs.Calls.{write_tree};
 ghost use Rattle.numerals.specs.Numerals.{numbers_in};
-ghost use Rattle.newick_in.specs.Records.{Covers, record_of_list, record_of_text};
+ghost use Rattle.newick_in.specs.Records.{Covers, IsPrefixLen, record_of_list, record_of_text};
 
 use statement::{Outcome, Splits};
+use std::io;
 
 // The number of taxa that a word says, 2 to 64; else 0.
 pub fn taxa_in(word: &[u8]) -> usize
@@ -47,22 +47,28 @@ fn put_list(n: usize, list: Splits, out: &mut [u8]) -> usize
 {
     let len = 1 + n + 5 * list.rows;
     let whole = record_find::record_length(len);
-    let mut body = io::buffer();
+    let mut body = [0u8; 4096];
     put_record(n, list, &mut body[..len], &mut out[..whole]);
     whole
 }
 
 // The answer to a text: its tree's record at the start of `out`, and how long it is; or 0, and a line that says what is wrong. `more` says that the
 // text goes on behind its 65,536 bytes.
-pub fn answer(n: usize, text: &[u8], more: bool, out: &mut [u8]) -> usize
+pub fn answer(
+    rt: &impl Print,
+    n: usize,
+    text: &[u8],
+    more: bool,
+    out: &mut [u8],
+) -> io::Result<usize>
     requires { 1024 ≤ length out.old }
-    ensures { (take result out.new ≡ record_of_text n text.now) × IsPrefixLen result out.new }
+    ensures { IfOk result (λ len. (take len out.new ≡ record_of_text n text.now) × IsPrefixLen len out.new) }
 {
     let read = newick_read::read_newick(n, text);
     let said = read.outcome;
     if let Outcome::Refused(no, place) = said {
-        newick_reasons::refused(n, no, place, text, more);
-        return 0;
+        newick_reasons::refused(rt, n, no, place, text, more)?;
+        return Ok(0);
     }
-    put_list(n, read.list, out)
+    Ok(put_list(n, read.list, out))
 }

@@ -6,6 +6,7 @@ ghost use Rattle.newick_out.specs.Lists.{list_in, without_trials};
 
 use print::say;
 use statement::{Growth, Outcome, Reading, Splits};
+use std::io;
 
 // A run's outcome and list.
 fn without_trials(g: Growth) -> Reading
@@ -37,36 +38,42 @@ pub fn list_in(bytes: &[u8]) -> Reading
 }
 
 // The text into a slice of its length, and out.
-fn say_in(n: usize, list: Splits, text: &mut [u8]) {
+fn say_in(rt: &impl Print, n: usize, list: Splits, text: &mut [u8]) -> io::Result<()> {
     newick_write::write_newick(n, list, text);
-    say(text);
+    say(rt, text)
 }
 
 // The same at the start of a slice that is long enough.
-fn say_first(n: usize, list: Splits, len: usize, text: &mut [u8]) {
+fn say_first(
+    rt: &impl Print,
+    n: usize,
+    list: Splits,
+    len: usize,
+    text: &mut [u8],
+) -> io::Result<()> {
     if len > text.len() {
-        return;
+        return Ok(());
     }
-    say_in(n, list, &mut text[..len]);
+    say_in(rt, n, list, &mut text[..len])
 }
 
 // The text of a list, and a line feed. No text of a well-formed list has more than 65,535 bytes (`newick-short`).
-pub fn say_text(n: usize, list: Splits) {
+pub fn say_text(rt: &impl Print, n: usize, list: Splits) -> io::Result<()> {
     let mut len: usize = 0;
     newick_write::newick_length(n, list, &mut len);
-    let mut text = io::large_buffer();
-    say_first(n, list, len, &mut text);
-    say(b"\n");
+    let mut text = [0u8; 65536];
+    say_first(rt, n, list, len, &mut text)?;
+    say(rt, b"\n")
 }
 
 // What `to_newick` says of the bytes: the text of the list, or why there is none.
-pub fn answer(bytes: &[u8]) {
+pub fn answer(rt: &impl Print, bytes: &[u8]) -> io::Result<()> {
     let read = list_in(bytes);
     let said = read.outcome;
     let list = read.list;
     match said {
-        Outcome::Done => say_text(list.taxa, list),
-        Outcome::Short => say(b""),
-        Outcome::Refused(no, place) => reasons::refused(no, place),
+        Outcome::Done => say_text(rt, list.taxa, list),
+        Outcome::Short => say(rt, b""),
+        Outcome::Refused(no, place) => reasons::refused(rt, no, place),
     }
 }

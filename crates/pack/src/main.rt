@@ -1,19 +1,21 @@
 // The program `pack`: typed numbers on standard input, the record of their matrix on standard output, or one line that says what is wrong and where.
 #![tactic(auto)]
 
+use std::io;
+use std::io::Input;
+
 // Whether standard input goes on.
-fn more() -> bool {
+fn more(rt: &impl Input) -> io::Result<bool> {
     let mut one = [0u8; 1];
-    io::read_full(0, &mut one) != 0
+    Ok(input::read_full(&mut rt.reader(), &mut one)? != 0)
 }
 
 // A text of at most 65,536 bytes.
-fn main() {
-    let mut buffer = io::large_buffer();
-    let n = io::read_full(0, &mut buffer);
-    if more() {
-        packing::too_long(&buffer[..n]);
-        return;
+fn main(rt: HostRuntime) -> io::Result<()> {
+    let mut buffer = [0u8; 65536];
+    let n = input::read_full(&mut rt.reader(), &mut buffer)?;
+    if more(&rt)? {
+        return packing::too_long(&rt, &buffer[..n]);
     }
-    packing::answer(&buffer[..n]);
+    packing::answer(&rt, &buffer[..n])
 }

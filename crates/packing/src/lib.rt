@@ -10,39 +10,44 @@ ghost use Rattle.typed.specs.declared.Typed.TheVariants.{Matrix};
 
 use print::{number, say};
 use statement::Outcome;
+use std::io;
 use typed::Typed;
 
 // The line and column of byte p of the text.
-fn say_place(text: &[u8], p: usize) {
+fn say_place(rt: &impl Print, text: &[u8], p: usize) -> io::Result<()> {
     let place = numerals::place_of(text, p);
-    say(b"line ");
-    number(place.line as u64);
-    say(b", column ");
-    number(place.column as u64);
-    say(b": ");
+    say(rt, b"line ")?;
+    number(rt, place.line as u64)?;
+    say(rt, b", column ")?;
+    number(rt, place.column as u64)?;
+    say(rt, b": ")
+}
+
+// The character of a byte where it can be shown, else its number.
+fn say_shown(rt: &impl Print, b: u8) -> io::Result<()> {
+    if b > 32 && b < 127 {
+        let shown = [b'\'', b, b'\''];
+        return say(rt, &shown);
+    }
+    say(rt, b"byte ")?;
+    number(rt, b as u64)
 }
 
 // A byte that is no digit and no space: the character where it can be shown, else its number.
-fn say_strange(text: &[u8], p: usize) {
-    say_place(text, p);
+fn say_strange(rt: &impl Print, text: &[u8], p: usize) -> io::Result<()> {
+    say_place(rt, text, p)?;
     let b = numerals::byte_at(text, p);
-    if b > 32 && b < 127 {
-        let shown = [b'\'', b, b'\''];
-        say(&shown);
-    } else {
-        say(b"byte ");
-        number(b as u64);
-    }
-    say(b" is no digit\n");
+    say_shown(rt, b)?;
+    say(rt, b" is no digit\n")
 }
 
 // No number at all, or an n that is not from 2 to 64.
-fn say_taxa(text: &[u8], p: usize) {
-    say_place(text, p);
+fn say_taxa(rt: &impl Print, text: &[u8], p: usize) -> io::Result<()> {
+    say_place(rt, text, p)?;
     if p < text.len() {
-        say(b"number of taxa not from 2 to 64\n");
+        say(rt, b"number of taxa not from 2 to 64\n")
     } else {
-        say(b"no number of taxa\n");
+        say(rt, b"no number of taxa\n")
     }
 }
 
@@ -65,27 +70,27 @@ fn half_size(n: usize) -> usize {
 }
 
 // Too few or too many numbers for n taxa.
-fn say_count(text: &[u8], n: usize, found: usize, p: usize) {
-    say_place(text, p);
-    number(found as u64);
-    say(b" distances for ");
-    number(n as u64);
-    say(b" taxa: a full matrix has ");
-    number(full_size(n) as u64);
-    say(b", a lower half ");
-    number(half_size(n) as u64);
-    say(b"\n");
+fn say_count(rt: &impl Print, text: &[u8], n: usize, found: usize, p: usize) -> io::Result<()> {
+    say_place(rt, text, p)?;
+    number(rt, found as u64)?;
+    say(rt, b" distances for ")?;
+    number(rt, n as u64)?;
+    say(rt, b" taxa: a full matrix has ")?;
+    number(rt, full_size(n) as u64)?;
+    say(rt, b", a lower half ")?;
+    number(rt, half_size(n) as u64)?;
+    say(rt, b"\n")
 }
 
 // What the matrix itself is refused for: document 01's numbers 3, 4 and 5.
-fn say_refusal(text: &[u8], no: u8, entry: usize) {
-    say_place(text, typed::entry_place(text, entry));
+fn say_refusal(rt: &impl Print, text: &[u8], no: u8, entry: usize) -> io::Result<()> {
+    say_place(rt, text, typed::entry_place(text, entry))?;
     if no == 3 {
-        say(b"diagonal not 0\n");
+        say(rt, b"diagonal not 0\n")
     } else if no == 4 {
-        say(b"distance above 1,000,000\n");
+        say(rt, b"distance above 1,000,000\n")
     } else {
-        say(b"the two entries of a pair differ\n");
+        say(rt, b"the two entries of a pair differ\n")
     }
 }
 
@@ -100,45 +105,45 @@ fn write_typed(text: &[u8], n: usize, body: &mut [u8], out: &mut [u8]) -> Outcom
 }
 
 // That record to standard output, or what the matrix is refused for.
-fn send(text: &[u8], n: usize, body: &mut [u8], out: &mut [u8])
+fn send(rt: &impl Print, text: &[u8], n: usize, body: &mut [u8], out: &mut [u8]) -> io::Result<()>
     requires { (Matrix n ≡ said_of text.now) × (length body.old ≡ 4 * (n * n)) }
 {
     let said = write_typed(text, n, body, out);
     match said {
-        Outcome::Done => say(out),
-        Outcome::Short => say(b""),
-        Outcome::Refused(no, e) => say_refusal(text, no, e),
+        Outcome::Done => say(rt, out),
+        Outcome::Short => say(rt, b""),
+        Outcome::Refused(no, e) => say_refusal(rt, text, no, e),
     }
 }
 
 // The same, in buffers of its own: a body of 4 bytes for each entry, and a record of 10 more.
-fn pack(text: &[u8], n: usize)
+fn pack(rt: &impl Print, text: &[u8], n: usize) -> io::Result<()>
     requires { Matrix n ≡ said_of text.now }
 {
-    let mut body = io::large_buffer();
-    let mut out = io::large_buffer();
+    let mut body = [0u8; 65536];
+    let mut out = [0u8; 65536];
     let len = 4 * (n * n);
-    send(text, n, &mut body[..len], &mut out[..len + 10]);
+    send(rt, text, n, &mut body[..len], &mut out[..len + 10])
 }
 
 // The answer to a text.
-pub fn answer(text: &[u8]) {
+pub fn answer(rt: &impl Print, text: &[u8]) -> io::Result<()> {
     let said = typed::check(text);
     match said {
-        Typed::Matrix(n) => pack(text, n),
-        Typed::Strange(p) => say_strange(text, p),
+        Typed::Matrix(n) => pack(rt, text, n),
+        Typed::Strange(p) => say_strange(rt, text, p),
         Typed::TooLarge(p) => {
-            say_place(text, p);
-            say(b"number above 4,294,967,295\n");
+            say_place(rt, text, p)?;
+            say(rt, b"number above 4,294,967,295\n")
         }
-        Typed::Taxa(p) => say_taxa(text, p),
-        Typed::Count(n, found, p) => say_count(text, n, found, p),
-        Typed::Room => say(b""),
+        Typed::Taxa(p) => say_taxa(rt, text, p),
+        Typed::Count(n, found, p) => say_count(rt, text, n, found, p),
+        Typed::Room => say(rt, b""),
     }
 }
 
 // The answer to a text that goes on: it might be cut within a number.
-pub fn too_long(text: &[u8]) {
-    say_place(text, text.len());
-    say(b"the text goes on behind 65,536 bytes\n");
+pub fn too_long(rt: &impl Print, text: &[u8]) -> io::Result<()> {
+    say_place(rt, text, text.len())?;
+    say(rt, b"the text goes on behind 65,536 bytes\n")
 }

@@ -6,90 +6,94 @@ ghost use Rattle.std.specs.Prelude.{◌≤◌, length};
 use print::{number, say};
 use reasons::refused;
 use statement::{Outcome, Splits};
+use std::io;
 
-fn verdict(said: Outcome) {
+fn verdict(rt: &impl Print, said: Outcome) -> io::Result<()> {
     match said {
-        Outcome::Done => say(b"accepted\n"),
-        Outcome::Short => say(b"short\n"),
-        Outcome::Refused(no, place) => refused(no, place),
+        Outcome::Done => say(rt, b"accepted\n"),
+        Outcome::Short => say(rt, b"short\n"),
+        Outcome::Refused(no, place) => refused(rt, no, place),
     }
 }
 
 // The taxa of a group.
-fn taxa(cluster: u64) {
-    let mut i: usize = 0;
-    while i < 64 {
+fn taxa(rt: &impl Print, cluster: u64) -> io::Result<()> {
+    for i in 0..64usize {
         if (cluster >> i) % 2 == 1 {
-            say(b" ");
-            number(i as u64);
+            say(rt, b" ")?;
+            number(rt, i as u64)?;
         }
-        i += 1;
     }
+    Ok(())
 }
 
-fn group(list: Splits, i: usize) {
+fn group(rt: &impl Print, list: Splits, i: usize) -> io::Result<()> {
     if i < 125 {
-        say(b"group");
-        taxa(list.clusters[i]);
-        say(b", weight ");
-        number(list.weights[i] as u64);
-        say(b"\n");
+        say(rt, b"group")?;
+        taxa(rt, list.clusters[i])?;
+        say(rt, b", weight ")?;
+        number(rt, list.weights[i] as u64)?;
+        say(rt, b"\n")?;
     }
+    Ok(())
 }
 
-fn groups(list: Splits) {
-    let mut i: usize = 0;
-    while i < 125 {
+fn groups(rt: &impl Print, list: Splits) -> io::Result<()> {
+    for i in 0..125 {
         if i < list.rows {
-            group(list, i);
+            group(rt, list, i)?;
         }
-        i += 1;
+    }
+    Ok(())
+}
+
+// What kind of record it is.
+fn kind_of(rt: &impl Print, kind: u8) -> io::Result<()> {
+    if kind == 1 {
+        say(rt, b"matrix of ")
+    } else if kind == 2 {
+        say(rt, b"table of fours of ")
+    } else {
+        say(rt, b"tree of ")
     }
 }
 
 // What kind of record it is, of how many taxa.
-fn title(kind: u8, n: usize) {
-    if kind == 1 {
-        say(b"matrix of ");
-    } else if kind == 2 {
-        say(b"table of fours of ");
-    } else {
-        say(b"tree of ");
-    }
-    number(n as u64);
-    say(b" taxa: ");
+fn title(rt: &impl Print, kind: u8, n: usize) -> io::Result<()> {
+    kind_of(rt, kind)?;
+    number(rt, n as u64)?;
+    say(rt, b" taxa: ")
 }
 
 // A body of this kind: accepted or not, and a tree's groups.
-fn body(kind: u8, n: usize, bytes: &[u8]) {
+fn body(rt: &impl Print, kind: u8, n: usize, bytes: &[u8]) -> io::Result<()> {
     if kind == 1 {
-        verdict(record_write::check_matrix(n, bytes));
+        verdict(rt, record_write::check_matrix(n, bytes))
     } else if kind == 2 {
-        verdict(table::check(n, bytes));
+        verdict(rt, table::check(n, bytes))
     } else {
         let read = tree_read::read_tree(n, bytes);
         let said = read.outcome;
-        verdict(said);
-        groups(read.list);
+        verdict(rt, said)?;
+        groups(rt, read.list)
     }
 }
 
 // A record that was found.
-fn found(bytes: &[u8])
+fn found(rt: &impl Print, bytes: &[u8]) -> io::Result<()>
     requires { 8 ≤ length bytes.now }
 {
     let n = tree_body::vertex(bytes[3]);
-    title(bytes[2], n);
-    body(bytes[2], n, record_find::body_of(bytes));
+    title(rt, bytes[2], n)?;
+    body(rt, bytes[2], n, record_find::body_of(bytes))
 }
 
 // What the bytes begin with.
-pub fn describe(bytes: &[u8]) {
+pub fn describe(rt: &impl Print, bytes: &[u8]) -> io::Result<()> {
     let said = record_find::find_record(bytes);
     if record_find::number_of(said) != 0 {
-        say(b"no record: ");
-        verdict(said);
-        return;
+        say(rt, b"no record: ")?;
+        return verdict(rt, said);
     }
-    found(bytes);
+    found(rt, bytes)
 }

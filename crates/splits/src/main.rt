@@ -2,8 +2,10 @@
 // first record is ignored.
 #![tactic(auto)]
 
-fn main() {
-    let mut bytes = io::large_buffer();
-    let got = io::read_full(0, &mut bytes);
-    print::growth(job::run_record(&bytes[..got]));
+use std::io;
+
+fn main(rt: HostRuntime) -> io::Result<()> {
+    let mut bytes = [0u8; 65536];
+    let got = input::read_full(&mut rt.reader(), &mut bytes)?;
+    print::growth(&rt, job::run_record(&bytes[..got]))
 }

@@ -3,19 +3,20 @@
 #![tactic(auto)]
 
 use statement::{Outcome, Reading, Splits};
+use std::io;
 
 // What a reading gives: the rows, or the refusal.
-fn print(r: Reading) {
+fn print(rt: &impl Print, r: Reading) -> io::Result<()> {
     let o = r.outcome;
     let list = r.list;
     match o {
-        Outcome::Refused(no, place) => print::refusal(no, place),
-        Outcome::Short => print::say(b"short\n"),
+        Outcome::Refused(no, place) => print::refusal(rt, no, place),
+        Outcome::Short => print::say(rt, b"short\n"),
         Outcome::Done => {
-            print::say(b"taxa ");
-            print::number(list.taxa as u64);
-            print::say(b"\n");
-            print::rows(list);
+            print::say(rt, b"taxa ")?;
+            print::number(rt, list.taxa as u64)?;
+            print::say(rt, b"\n")?;
+            print::rows(rt, list)
         }
     }
 }
@@ -34,32 +35,32 @@ fn damaged(at: usize, byte: u8) -> [u8; 19] {
     body
 }
 
-fn read_damaged(at: usize, byte: u8) {
+fn read_damaged(rt: &impl Print, at: usize, byte: u8) -> io::Result<()> {
     let body = damaged(at, byte);
-    print(tree_read::read_tree(3, &body));
+    print(rt, tree_read::read_tree(3, &body))
 }
 
-fn readings() {
+fn readings(rt: &impl Print) -> io::Result<()> {
     let body = sound();
-    print(tree_read::read_tree(3, &body));
+    print(rt, tree_read::read_tree(3, &body))?;
     // 1: n; 2: a length that fits no m; 9: the m byte, a link and a home above m
-    print(tree_read::read_tree(1, &body));
-    print(tree_read::read_tree(65, &body));
-    print(tree_read::read_tree(3, samples::first_bytes(&body, 18)));
-    read_damaged(0, 2);
-    read_damaged(1, 4);
-    read_damaged(6, 4);
+    print(rt, tree_read::read_tree(1, &body))?;
+    print(rt, tree_read::read_tree(65, &body))?;
+    print(rt, tree_read::read_tree(3, samples::first_bytes(&body, 18)))?;
+    read_damaged(rt, 0, 2)?;
+    read_damaged(rt, 1, 4)?;
+    read_damaged(rt, 6, 4)?;
     // 14: weight 0, and 4 + 256 * 256 * 31 = 2,031,620, each at its vertex
-    read_damaged(11, 0);
-    read_damaged(17, 31);
+    read_damaged(rt, 11, 0)?;
+    read_damaged(rt, 17, 31)?;
     // 10: vertex 0 under its own child, and vertex 2 under itself
-    read_damaged(1, 1);
-    read_damaged(3, 2);
+    read_damaged(rt, 1, 1)?;
+    read_damaged(rt, 3, 2)?;
     // 11: taxon 0 at vertex 0; 12: no taxon beyond vertex 2; 13: vertices 0 and 1 both hold taxa 1 and 2
-    read_damaged(4, 0);
-    read_damaged(6, 1);
+    read_damaged(rt, 4, 0)?;
+    read_damaged(rt, 6, 1)?;
     let twins = [2u8, 2, 0, 2, 1, 1, 1, 0, 0, 0, 1, 0, 0, 0];
-    print(tree_read::read_tree(3, &twins));
+    print(rt, tree_read::read_tree(3, &twins))
 }
 
 // A body of 64 bytes, of which the first are a tree's.
@@ -94,7 +95,7 @@ fn written(n: usize, list: Splits, len: usize) -> Body {
 }
 
 fn same_bytes(a: [u8; 64], b: [u8; 64]) -> bool {
-    check::same(&a, &b)
+    a == b
 }
 
 // 0 where a list written, read and written again gives the list and the same bytes; else 1.
@@ -136,7 +137,7 @@ fn case_differs(i: u64) -> u64 {
     trip_differs(n, of_matrix) | trip_differs(n, of_table)
 }
 
-fn trips() {
+fn trips(rt: &impl Print) -> io::Result<()> {
     let mut count: u64 = 0;
     let mut i: u64 = 0;
     while i < 400 {
@@ -145,50 +146,52 @@ fn trips() {
         }
         i += 1;
     }
-    print::say(b"800 lists written, read and written; the last case that differs (0: none): ");
-    print::number(count);
-    print::say(b"\n");
+    print::say(
+        rt,
+        b"800 lists written, read and written; the last case that differs (0: none): ",
+    )?;
+    print::number(rt, count)?;
+    print::say(rt, b"\n")
 }
 
 // Path sums of matrix A's list into 16 entries: done, or the refusal.
-fn sums(n: usize, list: Splits) -> [u64; 16] {
+fn sums(rt: &impl Print, n: usize, list: Splits) -> io::Result<[u64; 16]> {
     let mut out = [0u64; 16];
     match paths::sum_paths(n, list, &mut out) {
-        Outcome::Refused(no, place) => print::refusal(no, place),
-        Outcome::Short => print::say(b"short\n"),
-        Outcome::Done => print::say(b"done\n"),
+        Outcome::Refused(no, place) => print::refusal(rt, no, place)?,
+        Outcome::Short => print::say(rt, b"short\n")?,
+        Outcome::Done => print::say(rt, b"done\n")?,
     }
-    out
+    Ok(out)
 }
 
-fn print_sums(out: [u64; 16]) {
-    let mut e: usize = 0;
-    while e < 16 {
-        print::number(out[e]);
+fn print_sums(rt: &impl Print, out: [u64; 16]) -> io::Result<()> {
+    for e in 0..16 {
+        print::number(rt, out[e])?;
         if e % 4 == 3 {
-            print::say(b"\n");
+            print::say(rt, b"\n")?;
         } else {
-            print::say(b" ");
+            print::say(rt, b" ")?;
         }
-        e += 1;
     }
+    Ok(())
 }
 
 // 20 between taxa 0 and 3; a list of another k gets 8; 16 entries are not 9 and leave the slice as it was.
-fn path_sums() {
+fn path_sums(rt: &impl Print) -> io::Result<()> {
     let a = [0u32, 5, 9, 10, 5, 0, 10, 11, 9, 10, 0, 9, 10, 11, 9, 0];
     let g = run::run_matrix(4, &a);
     let list = g.list;
-    print_sums(sums(4, list));
-    print_sums(sums(5, list));
+    print_sums(rt, sums(rt, 4, list)?)?;
+    print_sums(rt, sums(rt, 5, list)?)?;
     let three = [0u32, 1, 1, 1, 0, 3, 1, 3, 0];
     let h = run::run_matrix(3, &three);
     let small = h.list;
-    print_sums(sums(3, small));
+    print_sums(rt, sums(rt, 3, small)?)
 }
 
-fn main() {
-    readings();
-    trips();
-    path_sums();
+fn main(rt: HostRuntime) -> io::Result<()> {
+    readings(&rt)?;
+    trips(&rt)?;
+    path_sums(&rt)
 }
