@@ -15,8 +15,8 @@ done : (n : ℕ) (text : List ℕ) (r : Reading) → r ≡ read_newick n text �
     → (read_newick n text).outcome ≡ Done
 done n text r e not = text_done n text (λ number place q. not number place (ap (λ (s : Reading). s.outcome) e ∙ q))
 
-pub returns-in-Refused : goal.returns-in-Refused
-returns-in-Refused g c =
+pub returns-in-Refused-clause-ok : goal.returns-in-Refused-clause-ok
+returns-in-Refused-clause-ok g c =
     let a = c.args in
     (text_refused a.n a.text.now _ _ (sym (ap (λ (r : Reading). r.outcome) c.read_newick-read.ensures) ∙ c.in-Refused.is), (omega arith, refl))
 
@@ -30,8 +30,8 @@ put_list-requires g c =
       c.requires,
     )
 
-pub returns : goal.returns
-returns g c =
+pub returns-clause-ok : goal.returns-clause-ok
+returns-clause-ok g c =
     let a = c.args in
     let read = c.read_newick-read in
     let put = c.put_list.ensures in
