@@ -23,8 +23,7 @@ returns-in-Refused-clause-ok g c =
 pub put_list-requires : goal.put_list-requires
 put_list-requires g c =
     let a = c.args in
-    let read = c.read_newick-read in
-    (
+    let read = c.read_newick-read in (
       subst (Covers a.n) (sym (ap (λ (r : Reading). r.list) read.ensures))
           (text_covers _ _ (done a.n a.text.now read.result read.ensures c.in_default.not-Refused)),
       c.requires,
@@ -34,8 +33,7 @@ pub returns-clause-ok : goal.returns-clause-ok
 returns-clause-ok g c =
     let a = c.args in
     let read = c.read_newick-read in
-    let put = c.put_list.ensures in
-    (
+    let put = c.put_list.ensures in (
       put.0 ∙ ap (record_of_list a.n) (ap (λ (r : Reading). r.list) read.ensures)
           ∙ text_record _ _ (done a.n a.text.now read.result read.ensures c.in_default.not-Refused),
       put.1,

@@ -1,6 +1,5 @@
 -- `newick_in::put_list` meets its contract.
 use Prim.Native.Nat.{◌+◌, ◌*◌, ◌≤◌}
-use native.Mathlib.Omega.{arith}
 use mathlib.Core.Path.{◌≡◌, sym, ◌∙◌, ap}
 use borrow.Author.Rules.{rules}
 use lib.ListN.{length, replicate}
@@ -16,8 +15,7 @@ put_record-requires c =
     let hw : length a.list.weights ≡ 125 = search rules in
     let fits : 1 + a.n + 5 * a.list.rows ≤ 4096 = search rules in
     let room : c.record_length-whole.result ≤ length a.out.now = search rules in
-    let len = length-take-le (1 + a.n + 5 * a.list.rows) (replicate 4096 0) fits in
-    (
+    let len = length-take-le (1 + a.n + 5 * a.list.rows) (replicate 4096 0) fits in (
       c.requires.0.few,
       tree_taken a.n a.list _ hc hw c.requires.0 len,
       length-take-le _ a.out.now room ∙ c.record_length-whole.ensures ∙ ap record_length (sym len),
