@@ -1,7 +1,7 @@
 // A Newick text of n taxa to the record of its tree, or to one line that says what is wrong with it. Document 02, §2.
 #![tactic(auto)]
 
-ghost use Rattle.std.specs.Prelude.{◌≡◌, ◌⊎◌, ◌≤◌, IfOk, OnErr, length, take, get_or};
+ghost use Rattle.std.specs.Prelude.{◌≡◌, ◌⊎◌, ◌≤◌, IfOk, OnErr, [], length, take, get_or};
 ghost use Rattle.statement.specs.declared.Outcome.TheVariants.{Done};
 ghost use Rattle.statement.specs.Record.{record_length};
 ghost use Rattle.statement.specs.Calls.{write_tree};
@@ -53,7 +53,8 @@ fn put_list(n: usize, list: Splits, out: &mut [u8]) -> usize
 }
 
 // The answer to a text: its tree's record at the start of `out`, and how long it is; or 0, and a line that says what is wrong. `more` says that the
-// text goes on behind its 65,536 bytes. Where that line cannot be written, the error, and `out` is as it was.
+// text goes on behind its 65,536 bytes. Where that line cannot be written, the error, and `out` is as it
+// was: an accepted text never meets it.
 pub fn answer(
     rt: &impl Print,
     n: usize,
@@ -64,6 +65,7 @@ pub fn answer(
     requires { 1024 ≤ length out.old }
     ensures ok { IfOk result (λ len. (take len out.new ≡ record_of_text n text.now) × IsPrefixLen len out.new) }
     ensures err { OnErr result (out.new ≡ out.old) }
+    ensures err_refused { OnErr result (record_of_text n text.now ≡ []) }
 {
     let read = newick_read::read_newick(n, text);
     let said = read.outcome;
