@@ -57,7 +57,7 @@ fn say_first(
     say_in(rt, n, list, &mut text[..len])
 }
 
-// The text of a list, and a line feed. No text of a well-formed list has more than 65,535 bytes (`newick-short`).
+// The text of a list, and a line feed. No text of a well-formed list has more than 65,535 bytes (`newick_short`).
 pub fn say_text(rt: &impl Print, n: usize, list: Splits) -> io::Result<()> {
     let mut len: usize = 0;
     newick_write::newick_length(n, list, &mut len);
