@@ -1,4 +1,3 @@
 -- The root of the proofs.
-pub mod Searches
 pub mod Sides
 pub mod Stored

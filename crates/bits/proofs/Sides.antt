@@ -2,15 +2,15 @@
 use Prim.Native.Nat.{ℕ, zero, suc, ◌+◌, ◌-◌, ◌/◌, ◌%◌, ◌^◌, ◌<◌}
 use native.Mathlib.Omega.{arith}
 use native.Mathlib.Decide.{dec_lt}
-use native.Mathlib.Numerals.{add-one}
-use native.Mathlib.Nat.{mod-lt, div-div-eq-div-mul, pow-suc}
+use native.Mathlib.Nat.{mod-lt}
 use mathlib.Core.Path.{◌≡◌, refl, sym, ◌∙◌, ap, subst}
 use mathlib.Core.Logic.{◌≢◌}
-use mathlib.Core.Bool.{Bool, true, false, cond}
+use mathlib.Core.Bool.{Bool, true, false, cond, not}
 use mathlib.Core.List.{List}
 use lib.Bits.{bit_and, and_mask}
 use lib.Pow.{pow_pos}
 use lib.Dec.{eqb}
+use mir.Val.{bool_byte}
 use lib.ListN.{length, get_or, set}
 use lib.Seq.{get_or-set_same, get_or-set_other}
 use borrow.Author.Tests.{eq-eqb, ne_eqb}
@@ -19,21 +19,7 @@ use Rattle.statement.proofs.Bits.{bit_zero, bit_suc, bit_lt, bit_mod}
 use Rattle.statement.proofs.Parts.{on_side, off_side}
 use Rattle.bits.specs.Members.{Members, Side}
 
--- what is left of a cluster past its first m taxa
-pub rest_none : (c : ℕ) → c ≡ c / 2 ^ 0
-rest_none c = omega arith
-
-pub rest_turn : (c m : ℕ) {rest : ℕ} → rest ≡ c / 2 ^ m → rest / 2 ≡ c / 2 ^ (m + 1)
-rest_turn c m e = ap (λ (r : ℕ). r / 2) e ∙ div-div-eq-div-mul c (2 ^ m) 2 ∙ ap (λ (p : ℕ). c / p) (sym (pow-suc 2 m) ∙ ap (λ (i : ℕ). 2 ^ i) (sym (add-one m)))
-
-pub rest_side : (c a m : ℕ) {rest : ℕ} → rest ≡ c / 2 ^ m → eqb (rest % 2) (bit c a) ≡ eqb (bit c m) (bit c a)
-rest_side c a m e = ap (λ (r : ℕ). eqb (r % 2) (bit c a)) e
-
 -- THE MEMBERS of the other side
-pub members_none : (a c : ℕ) (taxa : List ℕ) → Members 0 a c taxa 0
-members_none a c taxa =
-    record { few = omega arith; each = λ j l. absurd (omega arith); all = λ y l. absurd (omega arith); up = λ i j l. absurd (omega arith) }
-
 module _ (a c m : ℕ) (taxa : List ℕ) (count : ℕ) (h : Members m a c taxa count) (room : count < length taxa) where
   kept : (j : ℕ) → j < count → get_or (set taxa count m) j 0 ≡ get_or taxa j 0
   kept j l = get_or-set_other taxa count j m 0 (λ e. absurd (omega arith))
@@ -88,9 +74,9 @@ module _ (a c m : ℕ) (taxa : List ℕ) (count : ℕ) (h : Members m a c taxa c
           go (yes q) = let (j, lj, ej) = found y q n in (j, omega arith, ej)
           go (no q) = let same : m ≡ y = omega arith in (count, omega arith, last ∙ same)
 
-  pub members_turn : (s : Bool) {r : ℕ} → s ≡ eqb (bit c m) (bit c a) → r ≡ cond s count (count + 1) → Members (m + 1) a c (set taxa count m) r
-  members_turn true e f = rw f (members_on (on_side c a m e refl))
-  members_turn false e f = rw f (members_off (off_side c a m e refl))
+  pub members_turn : (s : Bool) {more : ℕ} → s ≡ eqb (bit c m) (bit c a) → more ≡ bool_byte (not s) → Members (m + 1) a c (set taxa count m) (count + more)
+  members_turn true {more} e f = let r : count + more ≡ count = omega (arith, f) in rw r (members_on (on_side c a m e refl))
+  members_turn false {more} e f = let r : count + more ≡ count + 1 = omega (arith, f) in rw r (members_off (off_side c a m e refl))
 
 -- THE OWN SIDE: the bits of what is left of 2 ^ k - 1
 pub bit_flip : (k m i : ℕ) → m < 2 ^ k → i < k → bit (2 ^ k - 1 - m) i ≡ 1 - bit m i

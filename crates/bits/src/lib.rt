@@ -28,24 +28,14 @@ pub fn is_alone(k: usize, c: u64, u: usize) -> bool
     requires { (k ≤ 64) × (u < k) }
     ensures { result ≡ alone k c u }
 {
-    let mut i: usize = 0;
-    while i < k {
-        if beside(c, u, i) {
-            return false;
-        }
-        i += 1;
-    }
-    true
+    !places::somewhere(k, |i| beside(c, u, i))
 }
 
 // Whether two taxa of a group are a pair that it gives: two different ones, or one that is alone there.
 pub fn is_pair(single: bool, y: usize, z: usize) -> bool
     ensures { result ≡ (not (eqb y z) || single) }
 {
-    if y == z {
-        return single;
-    }
-    true
+    y != z || single
 }
 
 // The cluster of one taxon.
@@ -53,33 +43,20 @@ pub fn single(k: usize) -> u64
     requires { k < 64 }
     ensures { result ≡ 2 ^ k }
 {
-    1u64 << k
+    1 << k
 }
 
-// One taxon more or not: the number of those on the other side than a.
-fn counted(same: bool, count: usize) -> usize
-    requires { count < 64 }
-    ensures { result ≡ cond same count (count + 1) }
+// The taxa of the first k on the other side than a, in order: the first numbers of `taxa`.
+pub fn members(k: usize, a: usize, c: u64, taxa: &mut [usize; 64]) -> &[usize]
+    requires { (k ≤ 64) × (a < 64) }
+    ensures { Members k a c result.now (length result.now) }
 {
-    if same { count } else { count + 1 }
-}
-
-// The taxa of the first k on the other side than a, in order. Gives their number.
-pub fn members(k: usize, a: usize, c: u64, taxa: &mut [usize; 64]) -> usize
-    requires { (k ≤ 64) × (a < 64) × (length taxa.old ≡ 64) }
-    ensures { Members k a c taxa.new result }
-{
-    let own = (c >> a) % 2;
-    let mut count: usize = 0;
-    let mut rest = c;
-    let mut y: usize = 0;
-    while y < k {
+    let mut count = 0;
+    for y in 0..k {
         taxa[count] = y;
-        count = counted(rest % 2 == own, count);
-        rest = rest / 2;
-        y += 1;
+        count += usize::from(!same_side(c, a, y));
     }
-    count
+    &taxa[..count]
 }
 
 // The number of the group of the taxa below a that are on a's side.
@@ -89,8 +66,5 @@ pub fn side_of(a: usize, c: u64) -> u64
 {
     let all = single(a) - 1;
     let low = c & all;
-    if (c >> a) % 2 == 1 {
-        return low;
-    }
-    all - low
+    if (c >> a) % 2 == 1 { low } else { all - low }
 }

@@ -1,25 +1,11 @@
 // Brute force from the definitions, for tests: every split of up to 7 taxa and every four of it, sharing no code with growth; the full answer, and one
-// taxon more of a list from elsewhere (document 02 §7). Scores are kept above zero by adding 10,000,000,000 to each.
+// taxon more of a list from elsewhere (document 02 §7).
 #![tactic(auto)]
 
-ghost use Rattle.std.specs.Prelude.{◌≡◌, true, ◌+◌, ◌<◌, ◌≤◌};
+ghost use Rattle.std.specs.Prelude.{◌≡◌, ◌≤ℤ◌, true, pos, ◌<◌, ◌≤◌};
 
+use samples::{Matrix, Table};
 use statement::Splits;
-
-fn wide(x: u32) -> u64
-    ensures { result < 4294967296 }
-{
-    x as u64
-}
-
-// The distance of two taxa.
-fn between(n: usize, d: &[u32; 49], i: usize, j: usize) -> u64
-    requires { (n ≤ 7) × (i < n) × (j < n) }
-    ensures { result < 4294967296 }
-{
-    let e = samples::entry_at(n, i, j);
-    wide(d[e])
-}
 
 // Whether taxon i is in the group c.
 fn inside(c: u64, i: usize) -> bool
@@ -28,113 +14,67 @@ fn inside(c: u64, i: usize) -> bool
     (c >> i) % 2 == 1
 }
 
-// The score of wx|yz, and 10,000,000,000.
-fn score_above(n: usize, d: &[u32; 49], w: usize, x: usize, y: usize, z: usize) -> u64
-    requires { (n ≤ 7) × (w < n) × (x < n) × (y < n) × (z < n) }
-    ensures { result < 20000000000 }
+// The sum of two distances.
+fn sum(m: &Matrix, i: usize, j: usize, k: usize, l: usize) -> i64
+    requires { (i < m.now.n) × (j < m.now.n) × (k < m.now.n) × (l < m.now.n) }
+    ensures { (pos 0 ≤ℤ result) × (result ≤ℤ pos 8589934590) }
 {
-    let across = between(n, d, w, y) + between(n, d, x, z);
-    let other = between(n, d, w, z) + between(n, d, x, y);
-    let along = between(n, d, w, x) + between(n, d, y, z);
-    if across < other {
-        return across + 10000000000 - along;
-    }
-    other + 10000000000 - along
+    i64::from(m.distance(i, j)) + i64::from(m.distance(k, l))
+}
+
+// The score of wx|yz.
+fn score(m: &Matrix, w: usize, x: usize, y: usize, z: usize) -> i64
+    requires { (w < m.now.n) × (x < m.now.n) × (y < m.now.n) × (z < m.now.n) }
+{
+    sum(m, w, y, x, z).min(sum(m, w, z, x, y)) - sum(m, w, x, y, z)
 }
 
 // Whether u has company: another of the n taxa is in its group, in the split c.
 fn company(n: usize, c: u64, u: usize) -> bool
     requires { (n ≤ 7) × (u < 7) }
 {
-    let mut found = false;
-    let mut i: usize = 0;
-    while i < n {
-        found = found || i != u && inside(c, i) == inside(c, u);
-        i += 1;
-    }
-    found
+    (0..n).any(|i| i != u && inside(c, i) == inside(c, u))
 }
 
 // Whether the split c of n taxa is trivial: some taxon has no company.
 fn trivial(n: usize, c: u64) -> bool
     requires { n ≤ 7 }
 {
-    let mut found = false;
-    let mut i: usize = 0;
-    while i < n {
-        found = found || !company(n, c, i);
-        i += 1;
-    }
-    found
+    (0..n).any(|i| !company(n, c, i))
 }
 
-// Whether the taxon t is one of four; any four will do where there is no taxon 7.
-fn holds(t: usize, u: usize, u2: usize, v: usize, v2: usize) -> bool {
-    t == 7 || t == u || t == u2 || t == v || t == v2
-}
-
-// The lesser of `least` and the score of uu'|vv', where u and u' are outside the cluster c and v and v' are in it; a taxon is taken twice only where
-// it has no company, and only fours that hold t count.
-fn lowered(
-    least: u64,
-    n: usize,
-    d: &[u32; 49],
-    c: u64,
-    t: usize,
-    u: usize,
-    u2: usize,
-    v: usize,
-    v2: usize,
-) -> u64
+// Whether uu'|vv' is a four of the split c of n taxa, u and u' outside the cluster and v and v' in it; a taxon is taken twice only where it has no
+// company.
+fn is_four(n: usize, c: u64, u: usize, u2: usize, v: usize, v2: usize) -> bool
     requires { (n ≤ 7) × (u < 7) × (u2 < 7) × (v < 7) × (v2 < 7) }
 {
-    if u >= n || u2 >= n || v >= n || v2 >= n {
-        return least;
-    }
-    if !holds(t, u, u2, v, v2) {
-        return least;
-    }
-    if inside(c, u) || inside(c, u2) || !inside(c, v) || !inside(c, v2) {
-        return least;
-    }
-    if u == u2 && company(n, c, u) {
-        return least;
-    }
-    if v == v2 && company(n, c, v) {
-        return least;
-    }
-    let s = score_above(n, d, u, u2, v, v2);
-    if s < least {
-        return s;
-    }
-    least
+    !inside(c, u)
+        && !inside(c, u2)
+        && inside(c, v)
+        && inside(c, v2)
+        && (u != u2 || !company(n, c, u))
+        && (v != v2 || !company(n, c, v))
 }
 
-// The least of `start` and the scores of the split c, over its fours that hold t, and 10,000,000,000.
-fn weight_above(n: usize, d: &[u32; 49], c: u64, t: usize, start: u64) -> u64
-    requires { n ≤ 7 }
-{
+// The least of `start` and the scores of the split c over its fours, over those that hold a taxon where one is given; 0 where it is below.
+fn weight_by(m: &Matrix, c: u64, held: Option<usize>, start: i64) -> u64 {
     let mut least = start;
-    let mut q: usize = 0;
-    while q < 2401 {
-        least = lowered(least, n, d, c, t, q % 7, q / 7 % 7, q / 49 % 7, q / 343);
-        q += 1;
+    for u in 0..m.n {
+        for u2 in 0..m.n {
+            for v in 0..m.n {
+                for v2 in 0..m.n {
+                    let counts = match held {
+                        Some(t) => [u, u2, v, v2].contains(&t),
+                        None => true,
+                    };
+                    if counts && is_four(m.n, c, u, u2, v, v2) {
+                        least = least.min(score(m, u, u2, v, v2));
+                    }
+                }
+            }
+        }
     }
-    least
-}
-
-// The row after a row that has to be c, w; 200 where it is not, and from then on.
-fn matched(list: Splits, row: usize, c: u64, w: u64) -> usize {
-    if row >= 125 {
-        return 200;
-    }
-    if list.clusters[row] != c {
-        return 200;
-    }
-    if list.weights[row] as u64 != w {
-        return 200;
-    }
-    row + 1
+    u64::try_from(least).unwrap_or(0)
 }
 
 // Whether the fours a<b<x<d of a split, of which the table says `byte`, is parted by the split as the table says or not by two and two.
@@ -142,182 +82,104 @@ fn agrees(c: u64, a: usize, b: usize, x: usize, d: usize, byte: u8) -> bool
     requires { (a < 7) × (b < 7) × (x < 7) × (d < 7) }
 {
     let first = inside(c, a);
-    let second = inside(c, b);
-    let third = inside(c, x);
-    let fourth = inside(c, d);
-    if first == second && third == fourth && first != third {
-        return byte == 1;
-    }
-    if first == third && second == fourth && first != second {
-        return byte == 2;
-    }
-    if first == fourth && second == third && first != second {
-        return byte == 3;
-    }
-    true
-}
-
-// What a walk through the fours in the order of their places has found: the next place, and whether all agreed.
-#[derive(Clone, Copy)]
-struct Fours {
-    place: usize,
-    all: bool,
-}
-
-// One more four, where a<b<x<d are below n.
-fn walked(
-    f: Fours,
-    n: usize,
-    bytes: &[u8; 35],
-    c: u64,
-    a: usize,
-    b: usize,
-    x: usize,
-    d: usize,
-) -> Fours
-    requires { (a < 7) × (b < 7) × (x < 7) × (d < 7) }
-{
-    let p = f.place;
-    if p >= 35 {
-        return f;
-    }
-    if a >= b || b >= x || x >= d || d >= n {
-        return f;
-    }
-    Fours {
-        place: p + 1,
-        all: f.all && agrees(c, a, b, x, d, bytes[p]),
+    match (
+        inside(c, b) == first,
+        inside(c, x) == first,
+        inside(c, d) == first,
+    ) {
+        (true, false, false) => byte == 1,
+        (false, true, false) => byte == 2,
+        (false, false, true) => byte == 3,
+        _ => true,
     }
 }
 
 // Whether every four of the split c that is parted by two and two stands in the table so.
-fn table_supports(n: usize, bytes: &[u8; 35], c: u64) -> bool {
-    let mut f = Fours {
-        place: 0,
-        all: true,
-    };
-    let mut q: usize = 0;
-    while q < 2401 {
-        f = walked(f, n, bytes, c, q % 7, q / 7 % 7, q / 49 % 7, q / 343);
-        q += 1;
+fn table_supports(t: &Table, c: u64) -> bool {
+    let mut bytes = t.bytes().iter();
+    for d in 0..t.n {
+        for x in 0..d {
+            for b in 0..x {
+                for a in 0..b {
+                    if let Some(byte) = bytes.next() {
+                        if !agrees(c, a, b, x, d, *byte) {
+                            return false;
+                        }
+                    }
+                }
+            }
+        }
     }
-    f.all
+    true
 }
 
-// A least score as a weight: 0 where it is zero or below.
-fn weight_from(least: u64) -> u64 {
-    if least <= 10000000000 {
-        return 0;
+// The weight of the split c by a matrix, over all its fours; 0 where it is not supported or goes beyond the taxa.
+pub fn matrix_weight(m: &Matrix, c: u64) -> u64 {
+    if c >> m.n != 0 {
+        0
+    } else {
+        weight_by(m, c, None, i64::MAX)
     }
-    least - 10000000000
 }
 
-// The weight of the split c over all its fours, 0 where it is not supported.
-fn matrix_weight(n: usize, d: &[u32; 49], c: u64) -> u64
-    requires { n ≤ 7 }
-{
-    weight_from(weight_above(n, d, c, 7, 20000000000))
-}
-
-// The weight of the split c, 0 where it is not supported or goes beyond n taxa: by the matrix d, or else by the table.
-fn weight_of(by_matrix: bool, n: usize, d: &[u32; 49], bytes: &[u8; 35], c: u64) -> u64
-    requires { n ≤ 7 }
-{
-    if c >> n != 0 {
-        return 0;
-    }
-    if by_matrix {
-        return matrix_weight(n, d, c);
-    }
-    if table_supports(n, bytes, c) {
-        return 1;
-    }
-    0
-}
-
-// The row after the split c, which has to be the next row where its weight is above zero.
-fn row_after(list: Splits, row: usize, c: u64, w: u64) -> usize {
-    if w == 0 {
-        return row;
-    }
-    matched(list, row, c, w)
-}
-
-// Whether the list is the answer: each supported split of n taxa in turn, ascending, with its weight, and no other.
-pub fn is_answer(by_matrix: bool, n: usize, d: &[u32; 49], bytes: &[u8; 35], list: Splits) -> bool
-    requires { n ≤ 7 }
-    ensures { result ≡ true → list.taxa ≡ n }
-{
-    let mut row: usize = 0;
-    let mut c: u64 = 2;
-    while c < 128 {
-        row = row_after(list, row, c, weight_of(by_matrix, n, d, bytes, c));
-        c += 2;
-    }
-    if list.taxa != n {
-        return false;
-    }
-    row == list.rows
+// The weight of the split c by a table: 1 where it is supported and does not go beyond the taxa.
+pub fn table_weight(t: &Table, c: u64) -> u64 {
+    u64::from(c >> t.n == 0 && table_supports(t, c))
 }
 
 // The weight that a list gives the cluster c; 0 where it is not listed.
-fn weight_in(list: Splits, c: u64) -> u64
-    ensures { result < 4294967296 }
-{
-    let mut i: usize = 0;
-    while i < 125 {
-        if i < list.rows && list.clusters[i] == c {
-            return wide(list.weights[i]);
-        }
-        i += 1;
+fn weight_in(list: &Splits, c: u64) -> u32 {
+    let mut rows = list.clusters.iter().zip(&list.weights).take(list.rows);
+    match rows.find(|(cluster, _)| **cluster == c) {
+        Some((_, weight)) => *weight,
+        None => 0,
     }
-    0
 }
 
-// The weight of the split c of n taxa by the growth rule, the list covering all but the last; 0 where it is not listed. The newcomer by itself, and what
-// extends a trivial split, listed or not, are weighed over all fours; a listed split that is not trivial by its old weight and the newcomer's fours.
-fn grown_weight(n: usize, d: &[u32; 49], old: Splits, c: u64) -> u64
-    requires { (2 ≤ n) × (n ≤ 7) }
+// The weight of the split c by the growth rule, the list covering all taxa of the matrix but the last; 0 where it is not listed. The newcomer by itself,
+// and what extends a trivial split, listed or not, are weighed over all fours; a listed split that is not trivial by its old weight and the newcomer's fours.
+pub fn grown_weight(m: &Matrix, old: &Splits, c: u64) -> u64
+    requires { 2 ≤ m.now.n }
 {
-    if c >> n != 0 {
+    if c >> m.n != 0 {
         return 0;
     }
-    let parent = c << (65 - n) >> (65 - n);
-    if parent == 0 || trivial(n - 1, parent) {
-        return matrix_weight(n, d, c);
+    let newcomer = m.n - 1;
+    let parent = c << (64 - newcomer) >> (64 - newcomer);
+    if parent == 0 || trivial(newcomer, parent) {
+        return matrix_weight(m, c);
     }
     let w = weight_in(old, parent);
     if w == 0 {
-        return 0;
+        0
+    } else {
+        weight_by(m, c, Some(newcomer), i64::from(w))
     }
-    weight_from(weight_above(n, d, c, n - 1, w + 10000000000))
 }
 
-// Whether a list is what the growth rule makes of one that covers all taxa but the last.
-pub fn is_grown(n: usize, d: &[u32; 49], old: Splits, list: Splits) -> bool
-    requires { (2 ≤ n) × (n ≤ 7) }
-    ensures { result ≡ true → list.taxa ≡ n }
+// Whether the list is the answer by a weight for each split: each split of weight above zero in turn, ascending, with its weight, and no other.
+pub fn is_answer<W: Fn(u64) -> u64>(n: usize, list: &Splits, weight: W) -> bool
+    requires { W.IsAlwaysCallable weight }
+    ensures { result ≡ true → list.now.taxa ≡ n }
 {
-    let mut row: usize = 0;
-    let mut c: u64 = 2;
-    while c < 128 {
-        row = row_after(list, row, c, grown_weight(n, d, old, c));
-        c += 2;
-    }
-    if list.taxa != n {
+    let (Some(clusters), Some(weights)) = (
+        list.clusters.get(..list.rows),
+        list.weights.get(..list.rows),
+    ) else {
         return false;
+    };
+    let mut rows = clusters.iter().zip(weights);
+    for c in (2..128u64).step_by(2) {
+        let w = weight(c);
+        if w == 0 {
+            continue;
+        }
+        match rows.next() {
+            Some((cluster, weight)) if *cluster == c && u64::from(*weight) == w => {}
+            _ => return false,
+        }
     }
-    row == list.rows
-}
-
-fn one_more(count: u64, counts: bool) -> u64
-    requires { count < 1000 }
-    ensures { result ≤ count + 1 }
-{
-    if counts {
-        return count + 1;
-    }
-    count
+    list.taxa == n && rows.next().is_none()
 }
 
 // How many trivial splits k taxa have.
@@ -325,42 +187,34 @@ fn trivials(k: usize) -> u64
     requires { k ≤ 7 }
     ensures { result ≤ 7 }
 {
-    if k < 2 {
-        return 0;
+    match k {
+        0 | 1 => 0,
+        2 => 1,
+        _ => k as u64,
     }
-    if k == 2 {
-        return 1;
-    }
-    k as u64
 }
 
 // What the next taxon costs on a matrix: both extensions of every trivial split of k taxa, and of each listed one that is not trivial, plus one.
-pub fn next_cost(k: usize, old: Splits) -> u64
+pub fn next_cost(k: usize, old: &Splits) -> u64
     requires { k ≤ 7 }
     ensures { (1 ≤ result) × (result ≤ 265) }
 {
-    let mut splits = trivials(k);
-    let mut i: usize = 0;
-    while i < 125 {
-        splits = one_more(splits, i < old.rows && !trivial(k, old.clusters[i]));
-        i += 1;
-    }
-    2 * splits + 1
+    let listed = old
+        .clusters
+        .iter()
+        .take(old.rows)
+        .filter(|c| !trivial(k, **c))
+        .count();
+    2 * (trivials(k) + listed as u64) + 1
 }
 
 // Whether two lists are the same: k, the row count and the rows.
-pub fn same(a: Splits, b: Splits) -> bool
-    ensures { result ≡ true → a.rows ≡ b.rows }
+pub fn same(a: &Splits, b: &Splits) -> bool
+    ensures { result ≡ true → a.now.rows ≡ b.now.rows }
 {
-    let mut i: usize = 0;
-    while i < 125 {
-        if i < a.rows && (a.clusters[i] != b.clusters[i] || a.weights[i] != b.weights[i]) {
-            return false;
-        }
-        i += 1;
-    }
-    if a.rows != b.rows {
-        return false;
-    }
+    let used = a.rows.min(125);
     a.taxa == b.taxa
+        && a.rows == b.rows
+        && a.clusters[..used] == b.clusters[..used]
+        && a.weights[..used] == b.weights[..used]
 }

@@ -9,10 +9,7 @@ use mathlib.Core.List.{List, [], ◌∷◌, ◌++◌}
 use lib.Dec.{leb}
 use lib.ListN.{length}
 use Rattle.statement.specs.declared.Splits.{Splits}
-use Rattle.statement.specs.declared.Growth.{Growth}
-use Rattle.statement.specs.declared.Reading.{Reading}
-use Rattle.statement.specs.declared.Outcome.{Outcome}
-use Rattle.statement.specs.declared.Outcome.TheVariants.{Done, Short, Refused}
+use Rattle.statement.specs.Outcomes.{Growth, Reading, Outcome, Done, Short, Refused}
 use Rattle.statement.specs.Matrix.{distance, weight_limit}
 use Rattle.statement.specs.Table.{table_weight}
 use Rattle.statement.specs.Rows.{rows_of, list_of}

@@ -6,7 +6,7 @@ use mathlib.Core.Path.{◌≡◌, refl, sym, ◌∙◌, ap}
 use mathlib.Core.List.{List}
 use lib.ListN.{get_or, replicate, length-replicate}
 use Rattle.statement.specs.declared.Splits.{Splits}
-use Rattle.statement.specs.declared.Growth.{Growth}
+use Rattle.statement.specs.Outcomes.{Growth}
 use Rattle.statement.specs.Matrix.{distance, weight_limit, AcceptedMatrix, Triangle}
 use Rattle.statement.specs.Rows.{rows_of, list_of, WellFormed}
 use Rattle.statement.specs.Growing.{by_matrix, by_repeats, rows_at, trials_at, whole_run, RepeatAnswer}

@@ -8,9 +8,7 @@ use mathlib.Core.List.{List, [], ◌∷◌, ◌++◌}
 use lib.Dec.{leb, eqb}
 use lib.ListN.{length}
 use Rattle.statement.specs.declared.Splits.{Splits}
-use Rattle.statement.specs.declared.Growth.{Growth}
-use Rattle.statement.specs.declared.Outcome.{Outcome}
-use Rattle.statement.specs.declared.Outcome.TheVariants.{Done, Short, Refused}
+use Rattle.statement.specs.Outcomes.{Growth, Outcome, Done, Short, Refused}
 use Rattle.statement.specs.Matrix.{distance, weight_limit}
 use Rattle.statement.specs.Table.{choose}
 use Rattle.statement.specs.Rows.{Row, rows_of, list_of, Same, WellFormed, well_formed}

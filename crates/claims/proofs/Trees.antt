@@ -6,8 +6,7 @@ use mathlib.Core.Bool.{true}
 use mathlib.Core.List.{List}
 use lib.ListN.{length, replicate, length-append, length-map, length-replicate}
 use Rattle.statement.specs.declared.Splits.{Splits}
-use Rattle.statement.specs.declared.Reading.{Reading}
-use Rattle.statement.specs.declared.Outcome.TheVariants.{Done}
+use Rattle.statement.specs.Outcomes.{Reading, Done}
 use Rattle.statement.specs.Matrix.{weight_limit}
 use Rattle.statement.specs.Rows.{Row, clusters, weights, filled, list_of, well_formed, WellFormed}
 use Rattle.statement.specs.Tree.{tree_of, rows_of_tree}

@@ -2,9 +2,7 @@
 use Rattle.std.specs.Prelude.{ℕ, suc, ◌+◌, ◌*◌, ◌-◌, ◌^◌, ◌≤◌, ◌<◌, ◌≡◌, ◌≢◌, ◌↔◌, Bool, true, not, List, length, pos, ◌<ℤ◌}
 use Rattle.std.specs.Bool.{beq}
 use Rattle.statement.specs.declared.Splits.{Splits}
-use Rattle.statement.specs.declared.Growth.{Growth}
-use Rattle.statement.specs.declared.Outcome.{Outcome}
-use Rattle.statement.specs.declared.Outcome.TheVariants.{Done, Refused}
+use Rattle.statement.specs.Outcomes.{Growth, Outcome, Done, Refused}
 use Rattle.statement.specs.Cluster.{group_of, Conflict}
 use Rattle.statement.specs.Matrix.{distance, score, weight_limit, MatrixWeight}
 use Rattle.statement.specs.Table.{stands, table_weight}

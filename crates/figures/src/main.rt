@@ -3,9 +3,10 @@
 // split from the definition.
 #![tactic(auto)]
 
-ghost use Rattle.std.specs.Prelude.{◌<◌, ◌≤◌};
+ghost use Rattle.std.specs.Prelude.{◌≤◌};
 
-use statement::{Growth, Splits};
+use samples::{Matrix, Shape, Table};
+use statement::{Grown, Refusal, Splits};
 use std::io;
 
 // n below 2 and above 64; the largest distance taken, and one more; the table of three taxa; all zeros at 64.
@@ -30,39 +31,24 @@ const PRIMATES: [u32; 49] = [
     25700, 124020, 115300, 50010, 40920, 28170, 25700, 0,
 ];
 
-// The entry e of the matrix of 64 taxa that hang one after the other on a line: |i - j| + 2. Its tree has all of its 125 edges.
-fn comb_entry(e: usize) -> u32
-    requires { e < 4096 }
-{
-    let i = e / 64;
-    let j = e % 64;
-    if i < j {
-        return (j - i + 2) as u32;
-    }
-    if j < i {
-        return (i - j + 2) as u32;
-    }
-    0
-}
-
+// The matrix of 64 taxa that hang one after the other on a line: |i - j| + 2. Its tree has all of its 125 edges.
 fn comb_matrix() -> [u32; 4096] {
-    let mut d = [0u32; 4096];
-    let mut e: usize = 0;
-    while e < 4096 {
-        d[e] = comb_entry(e);
-        e += 1;
+    let mut d = [0; 4096];
+    for i in 0..64usize {
+        for j in 0..64 {
+            if i != j {
+                d[64 * i + j] = (i.abs_diff(j) + 2) as u32;
+            }
+        }
     }
     d
 }
 
 fn comb(rt: &impl Print) -> io::Result<()> {
-    let d = comb_matrix();
-    let g = run::run_matrix(64, &d);
-    print::say(rt, b"comb: rows ")?;
-    print::number(rt, g.list.rows as u64)?;
-    print::say(rt, b" trials ")?;
-    print::number(rt, g.trials)?;
-    print::say(rt, b"\n")
+    match run::run_matrix(64, &comb_matrix()) {
+        Ok(g) => println!(rt; "comb: rows {} trials {}", g.list.rows, g.trials),
+        Err(refused) => print::refusal(rt, refused),
+    }
 }
 
 // What is left of a growth in parts: the list so far and the trials of all parts.
@@ -72,149 +58,100 @@ struct Parts {
     trials: u64,
 }
 
-fn more(p: Parts, g: Growth) -> Parts {
-    let list = g.list;
-    Parts {
-        list: list,
-        trials: p.trials.wrapping_add(g.trials),
-    }
-}
-
 // A growth cut into 80 small allowances.
-fn matrix_in_parts(n: usize, d: &[u32], seed: u64) -> Parts {
-    let mut p = Parts {
+fn in_parts<G: Fn(Splits, u64) -> Result<Grown, Refusal>>(
+    seed: u64,
+    grow: G,
+) -> Result<Parts, Refusal>
+    requires { G.IsAlwaysCallable grow }
+{
+    let mut parts = Parts {
         list: splits_list::empty(1),
         trials: 0,
     };
-    let mut i: u64 = 0;
-    while i < 80 {
-        let list = p.list;
-        p = more(p, run::grow_matrix(n, d, list, (seed % 1000 + 7 * i) % 31));
-        i += 1;
+    for i in 0..80u64 {
+        let g = grow(parts.list, (seed % 1000 + 7 * i) % 31)?;
+        parts = Parts {
+            list: g.list,
+            trials: parts.trials.wrapping_add(g.trials),
+        };
     }
-    p
+    Ok(parts)
 }
 
-fn table_in_parts(n: usize, bytes: &[u8], seed: u64) -> Parts {
-    let mut p = Parts {
-        list: splits_list::empty(1),
-        trials: 0,
-    };
-    let mut i: u64 = 0;
-    while i < 80 {
-        let list = p.list;
-        p = more(
-            p,
-            run::grow_table(n, bytes, list, (seed % 1000 + 7 * i) % 31),
-        );
-        i += 1;
-    }
-    p
-}
-
-// 0 where a list is the answer by brute force, and the growth in parts ended with the same list and trials; else 1.
-fn differs(by_matrix: bool, n: usize, d: [u32; 49], bytes: [u8; 35], g: Growth, p: Parts) -> u64
-    requires { n ≤ 7 }
+// Whether a list is not the answer by brute force, or the growth in parts did not end with the same list and trials.
+fn differs<W: Fn(u64) -> u64>(n: usize, g: Grown, parts: Parts, weight: W) -> bool
+    requires { W.IsAlwaysCallable weight }
 {
-    let list = g.list;
-    let parts = p.list;
-    if !brute::is_answer(by_matrix, n, &d, &bytes, list) {
-        return 1;
-    }
-    if brute::same(list, parts) && g.trials == p.trials {
-        return 0;
-    }
-    1
+    !brute::is_answer(n, &g.list, weight)
+        || !brute::same(&g.list, &parts.list)
+        || g.trials != parts.trials
 }
 
-fn matrix_differs(n: usize, d: [u32; 49], seed: u64) -> u64
-    requires { n ≤ 7 }
-{
-    let entries = samples::first_entries(&d, samples::entry_count(n));
-    let g = run::run_matrix(n, entries);
-    let p = matrix_in_parts(n, entries, seed);
-    differs(true, n, d, [0; 35], g, p)
+fn matrix_differs(m: &Matrix, seed: u64) -> Result<bool, Refusal> {
+    let g = run::run_matrix(m.n, m.entries())?;
+    let parts = in_parts(seed, |list, allowance| {
+        run::grow_matrix(m.n, m.entries(), list, allowance)
+    })?;
+    Ok(differs(m.n, g, parts, |c| brute::matrix_weight(m, c)))
 }
 
-fn table_differs(n: usize, bytes: [u8; 35], seed: u64) -> u64
-    requires { n ≤ 7 }
-{
-    let table = samples::first_bytes(&bytes, samples::byte_count(n));
-    let g = run::run_table(n, table);
-    let p = table_in_parts(n, table, seed);
-    differs(false, n, [0; 49], bytes, g, p)
+fn table_differs(t: &Table, seed: u64) -> Result<bool, Refusal> {
+    let g = run::run_table(t.n, t.bytes())?;
+    let parts = in_parts(seed, |list, allowance| {
+        run::grow_table(t.n, t.bytes(), list, allowance)
+    })?;
+    Ok(differs(t.n, g, parts, |c| brute::table_weight(t, c)))
 }
 
-// 0 where a list of all taxa but the last grows on the matrix as the growth rule says, at just what the last one costs, and is short with one trial
-// less; else 1.
-fn grown_differs(n: usize, d: [u32; 49], old: Splits) -> u64
-    requires { (2 ≤ n) × (n ≤ 7) }
+// Whether a list of all taxa but the last does not grow on the matrix as the growth rule says, at just what the last one costs, or is not short with one
+// trial less.
+fn grown_differs(m: &Matrix, old: Splits) -> Result<bool, Refusal>
+    requires { 2 ≤ m.now.n }
 {
-    let entries = samples::first_entries(&d, samples::entry_count(n));
-    let cost = brute::next_cost(n - 1, old);
-    let g = run::grow_matrix(n, entries, old, cost);
-    let short = run::grow_matrix(n, entries, old, cost - 1);
-    let grown = g.list;
-    let left = short.list;
-    if !brute::is_grown(n, &d, old, grown) {
-        return 1;
-    }
-    if g.trials == cost && short.trials == 0 && brute::same(old, left) {
-        return 0;
-    }
-    1
+    let cost = brute::next_cost(m.n - 1, &old);
+    let g = run::grow_matrix(m.n, m.entries(), old, cost)?;
+    let short = run::grow_matrix(m.n, m.entries(), old, cost - 1)?;
+    let as_ruled = brute::is_answer(m.n, &g.list, |c| brute::grown_weight(m, &old, c));
+    Ok(!as_ruled || g.trials != cost || short.trials != 0 || !brute::same(&old, &short.list))
 }
 
 // The same for two lists from elsewhere: of another matrix, and of a table, where every row weighs 1.
-fn carried_differs(n: usize, d: [u32; 49], i: u64) -> u64
-    requires { n ≤ 7 }
-{
-    if n < 3 {
-        return 0;
+fn carried_differs(m: &Matrix, i: u64) -> Result<bool, Refusal> {
+    if m.n < 3 {
+        return Ok(false);
     }
-    let k = n - 1;
-    let other = samples::matrix(i % 5, k, i / 7);
-    let bytes = samples::table(&other, k);
-    let by_matrix = run::run_matrix(
-        k,
-        samples::first_entries(&other, samples::entry_count(k)),
-    ).list;
-    let by_table = run::run_table(k, samples::first_bytes(&bytes, samples::byte_count(k))).list;
-    grown_differs(n, d, by_matrix) | grown_differs(n, d, by_table)
+    let other = Matrix::drawn(Shape::turn(i), m.n - 1, i / 7);
+    let table = Table::of(&other);
+    let by_matrix = run::run_matrix(other.n, other.entries())?;
+    let by_table = run::run_table(table.n, table.bytes())?;
+    Ok(grown_differs(m, by_matrix.list)? || grown_differs(m, by_table.list)?)
 }
 
 // Case i of the differential run: n from 2 to 7, a matrix in one of five shapes and the table made from it, and every fifth time a table of
 // bytes drawn at random.
-fn case_differs(i: u64) -> u64 {
+fn case_differs(i: u64) -> Result<bool, Refusal> {
     let n = (i % 6 + 2) as usize;
-    let shape = i / 6 % 5;
-    let d = samples::matrix(shape, n, i);
-    let bytes = samples::table(&d, n);
-    let drawn = samples::drawn_table(i);
-    let mut differs = matrix_differs(n, d, i);
-    differs = differs | carried_differs(n, d, i);
-    differs = differs | table_differs(n, bytes, i);
-    if shape == 0 {
-        differs = differs | table_differs(n, drawn, i);
-    }
-    differs
+    let shape = Shape::turn(i / 6);
+    let m = Matrix::drawn(shape, n, i);
+    Ok(
+        matrix_differs(&m, i)?
+            || carried_differs(&m, i)?
+            || table_differs(&Table::of(&m), i)?
+            || shape == Shape::Ties && table_differs(&Table::drawn(n, i), i)?,
+    )
 }
 
 fn differential(rt: &impl Print) -> io::Result<()> {
-    let mut count: u64 = 0;
-    let mut i: u64 = 0;
-    while i < 1200 {
-        if case_differs(i) != 0 {
-            count = i + 1;
+    let mut last = 0;
+    for i in 0..1200 {
+        if case_differs(i).unwrap_or(true) {
+            last = i + 1;
         }
-        i += 1;
     }
-    print::say(
-        rt,
-        b"1200 matrices, 1440 tables and 2000 carried lists; the last that differs (0: none): ",
-    )?;
-    print::number(rt, count)?;
-    print::say(rt, b"\n")
+    println!(rt;
+        "1200 matrices, 1440 tables and 2000 carried lists; the last that differs (0: none): {last}"
+    )
 }
 
 fn main(rt: HostRuntime) -> io::Result<()> {

@@ -3,22 +3,13 @@
 #![tactic(auto)]
 
 use std::io;
-use std::io::Input;
 use std::rt::Env;
 
-// Whether standard input goes on.
-fn more(rt: &impl Input) -> io::Result<bool> {
-    let mut one = [0u8; 1];
-    Ok(input::read_full(&mut rt.reader(), &mut one)? != 0)
-}
-
-// The first argument's number of taxa; 0 where that is none from 2 to 64.
-fn taxa(rt: &impl Env) -> usize {
+// The number of taxa, 2 to 64, that the first argument says.
+fn taxa(rt: &impl Env) -> Option<usize> {
     let mut word = [0u8; 4096];
-    match rt.arg(1, &mut word) {
-        Ok(got) => newick_in::taxa_in(&word[..got]),
-        Err(_) => 0,
-    }
+    let got = rt.arg(1, &mut word).ok()?;
+    newick_in::taxa_in(&word[..got])
 }
 
 // The record of a text, or what is wrong with it.
@@ -30,15 +21,13 @@ fn send(rt: &impl Print, n: usize, text: &[u8], more: bool) -> io::Result<()> {
 
 // A text of at most 65,536 bytes; what follows its semicolon is ignored.
 fn main(rt: HostRuntime) -> io::Result<()> {
-    let n = taxa(&rt);
-    if n == 0 {
-        return print::say(
-            &rt,
-            b"usage: ./program from_newick N < text, with N the number of taxa, 2 to 64\n",
+    let Some(n) = taxa(&rt) else {
+        return println!(&rt;
+            "usage: ./program from_newick N < text, with N the number of taxa, 2 to 64"
         );
-    }
+    };
     let mut text = [0u8; 65536];
     let got = input::read_full(&mut rt.reader(), &mut text)?;
-    let more = more(&rt)?;
+    let more = input::more(&mut rt.reader())?;
     send(&rt, n, &text[..got], more)
 }

@@ -4,15 +4,14 @@ use native.Mathlib.Omega.{arith}
 use native.Mathlib.Numerals.{add-one}
 use mathlib.Core.Path.{◌≡◌, sym, ◌∙◌, ap, ap₂}
 use mathlib.Core.List.{List, [], ◌∷◌, ◌++◌, append_assoc}
-use lib.ListN.{length, get_or, replicate, length-append, length-map}
+use lib.ListN.{length, get_or, length-append, length-map}
 use lib.Pow.{pow_mono}
 use Rattle.statement.specs.declared.Splits.{Splits}
-use Rattle.statement.specs.Rows.{Row, row, clusters, list_in, rows_of, filled, list_of, Ascending}
+use Rattle.statement.specs.Rows.{Row, row, clusters, rows_of, list_of, Ascending}
 use Rattle.statement.specs.Growing.{kept, enlarged}
 use Rattle.statement.proofs.Listed.{asc_mem, mem_get_d}
 use Rattle.splits_list.proofs.Laws.{Roomy, rows_length, cluster_at_law, appended_list}
 use Rattle.splits_list.specs.Pushed.{appended}
-use Rattle.grow.specs.Source.{with_taxon}
 use Rattle.grow.specs.Raised.{raised}
 use Rattle.grow.proofs.Laws.{kept_append, raised_none}
 
@@ -22,11 +21,6 @@ pub cluster_fits : (n : ℕ) (s : Splits) → Roomy s → n ≤ 64 → s.taxa < 
 cluster_fits n s room few more up b lb i l =
     let m = mem_get_d (clusters (rows_of s)) i (omega (arith, rows_length s room, length-map (rows_of s) (λ r. r.cluster))) in
     omega (arith, asc_mem 1 (2 ^ s.taxa) (clusters (rows_of s)) up (get_or (clusters (rows_of s)) i 0) m, cluster_at_law s room i l, pow_mono {i = suc s.taxa} {j = 64} (omega arith))
-
--- columns of zeros are the empty list
-pub blank : (k : ℕ) → list_in (suc k) 0 (replicate 125 0) (replicate 125 0) ≡ list_of (k + 1) []
-unfolding list_of filled
-blank k = ap (λ (m : ℕ). list_in m 0 (replicate 125 0) (replicate 125 0)) (sym (add-one k))
 
 -- what is kept: of the old splits without the newcomer, of the newcomer by itself, of the old splits with it
 abbrev pub tries : (ℕ → ℕ → ℕ → ℕ → ℕ) → Splits → ℕ → ℕ → ℕ
@@ -88,7 +82,7 @@ module _ (trial : ℕ → ℕ → ℕ → ℕ → ℕ) (most : ℕ) (s : Splits)
     pub third_room : t.rows + length (kept (tries trial s) (raised b (rows_of s))) ≤ 125
     third_room = omega (arith, rows_is t ((without trial s) ++ (single trial most s)) is, length-append (without trial s) (single trial most s), ap length with_is, sizes)
 
-    pub third_is : (u : Splits) → u ≡ appended t (kept (tries trial s) (raised b (rows_of s))) → u ≡ with_taxon trial most s
+    pub third_is : (u : Splits) → u ≡ appended t (kept (tries trial s) (raised b (rows_of s))) → u ≡ list_of (suc s.taxa) (enlarged trial most s.taxa (rows_of s))
     third_is u e =
         e ∙ ap₂ appended is with_is ∙ appended_list (suc s.taxa) ((without trial s) ++ (single trial most s)) (within trial s) (omega (arith, length-append (without trial s) (single trial most s), sizes))
         ∙ ap (list_of (suc s.taxa)) (append_assoc (without trial s) (single trial most s) (within trial s) ∙ sym parts)

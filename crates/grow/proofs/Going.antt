@@ -3,7 +3,7 @@ use Prim.Native.Nat.{ℕ, suc, ◌+◌, ◌-◌, ◌≤◌, ◌<◌}
 use native.Mathlib.Omega.{arith}
 use mathlib.Core.Path.{◌≡◌, refl, sym, ◌∙◌, ap, ap₂, subst}
 use Rattle.statement.specs.declared.Splits.{Splits}
-use Rattle.statement.specs.declared.Outcome.TheVariants.{Done, Short}
+use Rattle.statement.specs.Outcomes.{Done, Short}
 use Rattle.statement.specs.Rows.{list_of, WellFormed}
 use Rattle.statement.specs.Growing.{Manner, larger, cost, grown}
 use Rattle.statement.proofs.Run.{grown_covered, grown_short}

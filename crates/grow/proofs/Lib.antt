@@ -1,4 +1,5 @@
-pub mod Laws
-pub mod Sources
+-- The root of the proofs.
 pub mod AddTaxon
+pub mod Sources
 pub mod Going
+pub mod Laws

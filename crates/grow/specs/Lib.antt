@@ -1,2 +1,3 @@
 pub mod Source
+pub mod Lawful
 pub mod Raised

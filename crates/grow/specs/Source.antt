@@ -1,42 +1,25 @@
--- A source as growth gets it: its kind (document 01's record kinds: 1 matrix, else table) with the entries and the bytes, of which one is used.
-use Rattle.std.specs.Prelude.{ℕ, suc, ◌+◌, ◌≤◌, ◌≡◌, ◌≢◌, cond, List, eqb}
+-- What growth asks of a source, and what its steps hand on.
+use Rattle.std.specs.Prelude.{ℕ, suc, ◌^◌, ◌≤◌, ◌<◌, ◌≡◌, length}
 use Rattle.statement.specs.declared.Splits.{Splits}
-use Rattle.statement.specs.Matrix.{distance, weight_limit, AcceptedMatrix}
-use Rattle.statement.specs.Table.{table_weight, AcceptedTable}
-use Rattle.statement.specs.Rows.{Row, rows_of, list_of}
-use Rattle.lone_weights.specs.Lone.{Kept}
-use Rattle.table_trial.specs.Sets.{Prepared}
-use Rattle.statement.specs.Growing.{matrix_trial, table_trial, with_trivial, Manner, enlarged}
+use Rattle.statement.specs.Rows.{clusters, rows_of, list_of, Ascending, WellFormed}
+use Rattle.statement.specs.Growing.{Manner, enlarged, larger, trials_at}
 
--- its trial, and the most that a split of it can weigh
-unfoldable pub trial_by : ℕ → ℕ → List ℕ → List ℕ → ℕ → ℕ → ℕ → ℕ → ℕ
-trial_by kind n entries bytes = cond (eqb kind 1) (matrix_trial (distance n entries)) (table_trial bytes)
-
-unfoldable pub most_by : ℕ → ℕ
-most_by kind = cond (eqb kind 1) weight_limit table_weight
-
--- what is extended: the rows, on a matrix with every trivial split put in
-unfoldable pub parents_by : ℕ → ℕ → List Row → List Row
-parents_by kind = cond (eqb kind 1) (with_trivial weight_limit) (λ k rows. rows)
-
-abbrev pub manner_by : ℕ → ℕ → List ℕ → List ℕ → Manner
-manner_by kind n entries bytes = record { trial = trial_by kind n entries bytes; most = most_by kind; parents = parents_by kind }
-
--- and the list that holds it
-unfoldable pub extended_by : ℕ → Splits → Splits
-extended_by kind s = cond (eqb kind 1) (list_of s.taxa (with_trivial weight_limit s.taxa (rows_of s))) s
-
--- a list of what is extended with one taxon more
-abbrev pub with_taxon : (ℕ → ℕ → ℕ → ℕ → ℕ) → ℕ → Splits → Splits
-with_taxon trial most s = list_of (suc s.taxa) (enlarged trial most s.taxa (rows_of s))
-
--- an accepted source
-pub record Source (kind n : ℕ) (entries bytes : List ℕ) : Type 0 where
+-- a source of n taxa grows in a manner that keeps lists well-formed and within their room: of a well-formed list with a taxon left to add, what is
+-- extended ascends and has room, and so does the list with one taxon more; and 7,751 trials cover the whole run
+pub record Grows (n : ℕ) (g : Manner) : Type 0 where
+  pub two : 2 ≤ n
   pub few : n ≤ 64
-  pub matrix : kind ≡ 1 → AcceptedMatrix n entries
-  pub table : kind ≢ 1 → AcceptedTable n bytes
+  pub room : (s : Splits) → s.taxa < n → WellFormed g.most n s → length (g.parents s.taxa (rows_of s)) ≤ 125
+  pub up : (s : Splits) → s.taxa < n → WellFormed g.most n s → Ascending 1 (2 ^ s.taxa) (clusters (g.parents s.taxa (rows_of s)))
+  pub more : (s : Splits) → s.taxa < n → WellFormed g.most n s → WellFormed g.most n (larger g s)
+  pub covered : trials_at g n ≤ 7751
 
--- what was prepared for its newcomer k: in a matrix the kept weights, in a table the sets of k
-pub record Ready (kind n : ℕ) (entries bytes : List ℕ) (k : ℕ) (lone sets : List ℕ) : Type 0 where
-  pub matrix : kind ≡ 1 → Kept (distance n entries) (k + 1) (k + 1) lone
-  pub table : kind ≢ 1 → Prepared bytes k sets
+-- p holds what is extended of the list s
+pub record Extended (g : Manner) (s p : Splits) : Type 0 where
+  pub taxa : p.taxa ≡ s.taxa
+  pub rows : rows_of p ≡ g.parents s.taxa (rows_of s)
+  pub count : p.rows ≡ length (g.parents s.taxa (rows_of s))
+
+-- a list of what is extended, with one taxon more
+abbrev pub with_taxon : Manner → Splits → Splits
+with_taxon g p = list_of (suc p.taxa) (enlarged g.trial g.most p.taxa (rows_of p))

@@ -1,7 +1,7 @@
 // Reading bytes: a buffer is filled from its start, as far as there are bytes.
 #![tactic(auto)]
 
-ghost use Rattle.std.specs.Prelude.{◌≡◌, ◌<◌, IfOk, length, take};
+ghost use Rattle.std.specs.Prelude.{◌≡◌, ℕ, ◌<◌, [], ◌∷◌, IfOk, MatchBool, length, take};
 ghost use Rattle.std.specs.Io.{ReadsAtMost};
 ghost use Rattle.std.specs.Io.KnownBytes.{Consumes, IsAtEnd};
 
@@ -35,4 +35,12 @@ pub fn read_file(rt: &impl Files, name: &[u8], buf: &mut [u8]) -> io::Result<usi
         return Err(io::Error::from(ErrorKind::InvalidFilename));
     };
     read_full(&mut fs::open(rt, path)?, buf)
+}
+
+// Whether the reader goes on: a byte of it is taken, where there is one.
+pub fn more<R: Read>(reader: &mut R) -> io::Result<bool>
+    ensures { IfOk result (λ more. MatchBool more ((b : ℕ) × Consumes (R.remaining reader.old) (R.remaining reader.new) (b ∷ [])) (Consumes (R.remaining reader.old) (R.remaining reader.new) [] × IsAtEnd (R.remaining reader.new))) }
+{
+    let mut one = [0u8; 1];
+    Ok(read_full(reader, &mut one)? != 0)
 }

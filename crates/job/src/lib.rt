@@ -3,43 +3,35 @@
 
 ghost use Rattle.std.specs.Prelude.{◌≡◌, ◌*◌, ◌≤◌, length};
 ghost use Rattle.statement.specs.Bytes.{from_bytes};
-ghost use Rattle.statement.specs.Calls.{run_matrix, run_record};
+ghost use Rattle.statement.specs.Calls.{empty_list, run_matrix, run_record};
+ghost use Rattle.statement.specs.Replies.{growth_said};
 
 use record_find::Taken;
-use statement::Growth;
+use statement::{Grown, Kind, Refusal};
 
 // A matrix body, run.
-fn run_body(n: usize, body: &[u8]) -> Growth
+fn run_body(n: usize, body: &[u8]) -> Result<Grown, Refusal>
     requires { (n ≤ 64) × (length body.now ≡ 4 * (n * n)) }
-    ensures { result ≡ run_matrix n (from_bytes body.now) }
+    ensures { growth_said (empty_list 0) result ≡ run_matrix n (from_bytes body.now) }
 {
     let count = n * n;
-    let mut words = [0u32; 4096];
-    words::read_words(count, body, &mut words);
+    let words = words::words_of(count, body);
     run::run_matrix(n, &words[..count])
 }
 
-// A record run. Refused: an empty list with k = 0, and 0 trials.
-pub fn run_record(bytes: &[u8]) -> Growth
-    ensures { result ≡ run_record bytes.now }
+// A record run, or its refusal.
+#[tactic(auto, using(std::proofs::lemmas::Bool::Decides::nat_tests), unfolding(statement::specs::Calls::run_record))]
+pub fn run_record(bytes: &[u8]) -> Result<Grown, Refusal>
+    ensures { growth_said (empty_list 0) result ≡ run_record bytes.now }
 {
     let taken = Taken {
         matrices: true,
         tables: true,
         trees: false,
     };
-    let said = record_find::find_taken(bytes, taken);
-    if record_find::number_of(said) != 0 {
-        return Growth {
-            outcome: said,
-            list: splits_list::empty(0),
-            trials: 0,
-        };
+    let found = record_find::find_taken(bytes, taken)?;
+    match found.kind {
+        Kind::Matrix => run_body(found.taxa, found.body),
+        Kind::Table | Kind::Tree => run::run_table(found.taxa, found.body),
     }
-    let n = tree_body::vertex(bytes[3]);
-    let body = record_find::body_of(bytes);
-    if bytes[2] == 1 {
-        return run_body(n, body);
-    }
-    run::run_table(n, body)
 }

@@ -8,14 +8,10 @@ pub fn find(bytes: &[u8], from: usize, wanted: u8) -> usize
     requires { from ≤ length bytes.now }
     ensures { (from ≤ result) × (result ≤ length bytes.now) }
 {
-    let mut i = from;
-    while i < bytes.len() {
-        if bytes[i] == wanted {
-            return i;
-        }
-        i += 1;
-    }
-    i
+    bytes[from..]
+        .iter()
+        .position(|&b| b == wanted)
+        .map_or(bytes.len(), |far| from + far)
 }
 
 // The place behind a place; the end for the end.
@@ -23,8 +19,5 @@ pub fn behind(bytes: &[u8], place: usize) -> usize
     requires { place ≤ length bytes.now }
     ensures { result ≡ min (place + 1) (length bytes.now) }
 {
-    if place < bytes.len() {
-        return place + 1;
-    }
-    place
+    bytes.len().min(place + 1)
 }

@@ -19,9 +19,6 @@ use Rattle.lone_weights.specs.Lone.{Scores, Lone, Kept}
 use Rattle.lone_weights.specs.Lowering.{Term, Row, Beside, Lowered, Begun}
 
 -- A ROW
-pub row_none : (d : ℕ → ℕ → ℕ) (v z : ℕ) → Row d v z 0 3000000
-row_none d v z = record { least = λ s. ((λ h. (h, λ y l. absurd (omega arith))), (λ h. h.0)) }
-
 pub row_turn : (d : ℕ → ℕ → ℕ) (v z y : ℕ) {low p next : ℕ} → Row d v z y low → Term d v z y p → next ≡ min low p → Row d v z (y + 1) next
 row_turn d v z y {low} {p} {next} r term en = record { least = λ s. (there s, back s) }
   where
@@ -80,9 +77,6 @@ lone_most {r = r} h = go (dec_lt 0 r)
     go (no l) = omega arith
 
 -- THE NEWCOMER by itself, as far as the taxa z passed
-pub begun_none : (d : ℕ → ℕ → ℕ) (j : ℕ) → Begun d j 0 2000000
-begun_none d j = record { least = λ t pt. ((λ h. (h, λ z l. absurd (omega arith))), (λ h. h.0)) }
-
 pub begun_turn : (d : ℕ → ℕ → ℕ) (j z : ℕ) {best next : ℕ} → Begun d j z best → Lowered d j z z best next → Begun d j (z + 1) next
 begun_turn d j z {best} {next} b low = record { least = λ t pt. (there t pt, back t pt) }
   where

@@ -1,3 +1,3 @@
 -- The root of the proofs.
-pub mod Entries
 pub mod Signs
+pub mod Checks

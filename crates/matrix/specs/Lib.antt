@@ -1,3 +1,4 @@
 -- The root of the specs.
 pub mod Square
-pub mod Entries
+pub mod Checking
+pub mod Distances

@@ -2,138 +2,110 @@
 // Document 01, "Scores and splits" and "Refusal numbers".
 #![tactic(auto)]
 
-ghost use Rattle.std.specs.Prelude.{◌+◌, ◌*◌, ◌≤◌, ◌<◌, min, ◌≡◌, pos};
+ghost use Rattle.std.specs.Prelude.{◌+◌, ◌*◌, ◌≤◌, ◌<◌, min, ◌≡◌, pos, ℕ, [], ◌∷◌, IfOk};
 ghost use Rattle.std.proofs.Math.IntN.{sub_ℕ};
 ghost use Rattle.std.specs.Int.Signed.{lt_z};
-ghost use Rattle.statement.specs.Lowest.{lowest};
 ghost use Rattle.statement.specs.Matrix.{AcceptedMatrix, distance, distance_limit, score};
 ghost use Rattle.statement.specs.Growing.{above};
-ghost use Rattle.statement.specs.Refusals.{outcome_of, matrix_checks};
-ghost use Rattle.matrix.specs.Square.{Square, Between};
-ghost use Rattle.matrix.specs.Entries.{entry_check};
+ghost use Rattle.statement.specs.Refusals.{Check, outcome_of, matrix_checks};
+ghost use Rattle.statement.specs.Replies.{said};
+ghost use Rattle.matrix.specs.Square.{Square};
+ghost use Rattle.matrix.specs.Checking.{IsLine};
 
-use statement::Outcome;
+use statement::{Reason, Refusal};
 
-// Matrix: the distance of two taxa.
-fn between(n: usize, entries: &[u32], i: usize, j: usize) -> u64
-    requires { Square n entries.now × (i < n) × (j < n) }
-    ensures { Between n entries.now i j result }
-{
-    entries[i * n + j] as u64
-}
-
-// Whether the entry in row i and column j fails the check of this number: 3, the diagonal; 4, the limit; 5, the two entries of a pair.
-fn bad(number: u8, n: usize, entries: &[u32], i: usize, j: usize) -> bool
-    requires { Square n entries.now × (i < n) × (j < n) }
-    ensures { result ≡ (entry_check number n entries.now).bad (i * n + j) }
-{
-    let entry = between(n, entries, i, j);
-    if number == 3 {
-        return i == j && entry != 0;
-    }
-    if number == 4 {
-        return entry > 1000000;
-    }
-    i < j && entry != between(n, entries, j, i)
-}
-
-// A place in the matrix: its row and its column.
+// An accepted matrix of n taxa: its distances, n by n, row by row.
 #[derive(Clone, Copy)]
-struct Cell {
-    row: usize,
-    column: usize,
+pub struct Matrix<'a> {
+    pub n: usize,
+    pub entries: &'a [u32],
+    pub ghost accepted: { AcceptedMatrix n entries.now },
 }
 
-// The next place, row by row.
-fn after(n: usize, cell: Cell) -> Cell
-    requires { (n ≤ 64) × (cell.row < n) × (cell.column < n) }
-    ensures { (result.row * n + result.column ≡ cell.row * n + cell.column + 1) × (result.column < n) }
-{
-    if cell.column + 1 == n {
-        return Cell {
-            row: cell.row + 1,
-            column: 0,
-        };
-    }
-    Cell {
-        row: cell.row,
-        column: cell.column + 1,
-    }
-}
-
-// The lowest entry that fails the check of this number, else n * n.
-fn first(number: u8, n: usize, entries: &[u32]) -> usize
-    requires { Square n entries.now × (0 < n) }
-    ensures { result ≡ lowest (entry_check number n entries.now).bad (n * n) }
-{
-    let mut cell = Cell { row: 0, column: 0 };
-    let mut e: usize = 0;
-    while e < n * n {
-        if bad(number, n, entries, cell.row, cell.column) {
-            return e;
-        }
-        cell = after(n, cell);
-        e += 1;
-    }
-    e
-}
-
-// Refusals 1 to 5 in their order, each over the whole input before the next.
-pub fn check(n: usize, entries: &[u32]) -> Outcome
-    ensures { result ≡ outcome_of (matrix_checks n entries.now) }
-{
-    if n < 2 || n > 64 {
-        return Outcome::Refused(1, 0);
-    }
-    if entries.len() != n * n {
-        return Outcome::Refused(2, 0);
-    }
-    let diagonal = first(3, n, entries);
-    if diagonal < n * n {
-        return Outcome::Refused(3, diagonal);
-    }
-    let high = first(4, n, entries);
-    if high < n * n {
-        return Outcome::Refused(4, high);
-    }
-    let pair = first(5, n, entries);
-    if pair < n * n {
-        return Outcome::Refused(5, pair);
-    }
-    Outcome::Done
-}
-
-// The distance of two taxa of an accepted matrix.
-pub fn at(n: usize, entries: &[u32], i: usize, j: usize) -> u32
-    requires { AcceptedMatrix n entries.now × (i < n) × (j < n) }
-    ensures { (result ≡ distance n entries.now i j) × (result ≤ distance_limit) }
+// The entry in row i and column j of a matrix that is not checked yet.
+fn entry(n: usize, entries: &[u32], i: usize, j: usize) -> u32
+    requires { Square n entries.now × (i < n) × (j < n) }
+    ensures { result ≡ distance n entries.now i j }
 {
     entries[i * n + j]
 }
 
-// The lesser of two numbers.
-pub fn least(p: u32, q: u32) -> u32
-    ensures { result ≡ min p q }
+// One check of all the entries, each by its row and its column: the lowest bad one, row by row, is refused.
+fn check_entries<F: Fn(usize, usize) -> bool>(
+    n: usize,
+    reason: Reason,
+    bad: F,
+) -> Result<(), Refusal>
+    requires { (n ≤ 64) × ((i j : ℕ) → i < n → j < n → F.pre bad i j) }
+    ensures { (c : Check) → IsLine n reason (F.post bad) c → said result ≡ outcome_of (c ∷ []) }
 {
-    if p <= q { p } else { q }
+    for row in 0..n {
+        for column in 0..n {
+            if bad(row, column) {
+                return Err(reason.at(row * n + column));
+            }
+        }
+    }
+    Ok(())
+}
+
+impl<'a> Matrix<'a> {
+    ghost use Rattle.matrix.specs.Distances.{distances};
+
+    // Refusals 1 to 5 in their order, each over the whole input before the next.
+    pub fn read(n: usize, entries: &'a [u32]) -> Result<Matrix<'a>, Refusal>
+        ensures said { said result ≡ outcome_of (matrix_checks n entries.now) }
+        ensures ok { IfOk result (λ m. (m.n ≡ n) × (m.entries ≡ entries.entry)) }
+    {
+        if n < 2 || n > 64 {
+            return Err(Reason::Taxa.at(0));
+        }
+        if entries.len() != n * n {
+            return Err(Reason::Length.at(0));
+        }
+        check_entries(
+            n,
+            Reason::Diagonal,
+            |i, j| i == j && entry(n, entries, i, j) != 0,
+        )?;
+        check_entries(
+            n,
+            Reason::Distance,
+            |i, j| entry(n, entries, i, j) > 1000000,
+        )?;
+        check_entries(
+            n,
+            Reason::Pair,
+            |i, j| i < j && entry(n, entries, i, j) != entry(n, entries, j, i),
+        )?;
+        Ok(Matrix { n, entries })
+    }
+
+    // The distance of two taxa.
+    pub fn at(&self, i: usize, j: usize) -> u32
+        requires { (i < self.now.n) × (j < self.now.n) }
+        ensures { (result ≡ distances self.now i j) × (result ≤ distance_limit) }
+    {
+        self.entries[i * self.n + j]
+    }
+
+    // Score: for a pairing wx|yz the lesser of wy + xz and wz + xy, less (wx + yz).
+    pub fn score(&self, w: usize, x: usize, y: usize, z: usize) -> i64
+        requires { (w < self.now.n) × (x < self.now.n) × (y < self.now.n) × (z < self.now.n) }
+        ensures { result ≡ score (distances self.now) w x y z }
+    {
+        let wy_xz = self.at(w, y) + self.at(x, z);
+        let wz_xy = self.at(w, z) + self.at(x, y);
+        let wx_yz = self.at(w, x) + self.at(y, z);
+        less(wy_xz.min(wz_xy), wx_yz)
+    }
 }
 
 // The signed difference of two sums.
 pub fn less(p: u32, q: u32) -> i64
     ensures { result ≡ sub_ℕ p q }
 {
-    p as i64 - q as i64
-}
-
-// Score: for a pairing wx|yz the lesser of wy + xz and wz + xy, less (wx + yz).
-pub fn score_of(n: usize, entries: &[u32], w: usize, x: usize, y: usize, z: usize) -> i64
-    requires { AcceptedMatrix n entries.now × (w < n) × (x < n) × (y < n) × (z < n) }
-    ensures { result ≡ score (distance n entries.now) w x y z }
-{
-    let wy_xz = at(n, entries, w, y) + at(n, entries, x, z);
-    let wz_xy = at(n, entries, w, z) + at(n, entries, x, y);
-    let wx_yz = at(n, entries, w, x) + at(n, entries, y, z);
-    less(least(wy_xz, wz_xy), wx_yz)
+    i64::from(p) - i64::from(q)
 }
 
 // Matrix rule: zero is not above zero, so a tie does not support.
@@ -147,13 +119,7 @@ pub fn supports(score: i64) -> bool
 fn lowered(best: u32, score: i64) -> u32
     ensures { result ≡ min (above score) best }
 {
-    if score >= best as i64 {
-        return best;
-    }
-    if supports(score) {
-        return score as u32;
-    }
-    0
+    score.clamp(0, i64::from(best)) as u32
 }
 
 // The same for the score p less q.

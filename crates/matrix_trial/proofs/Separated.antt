@@ -28,9 +28,6 @@ pub reached_turn : (d : ℕ → ℕ → ℕ) (k a c : ℕ) (taxa reaches : List 
 reached_turn d k a c taxa reaches m r h room new = stored (λ j. Reach d k k a c (get_or taxa j 0)) reaches m r room new h
 
 -- THE LEAST of the pairs with z
-pub paired_none : (d : ℕ → ℕ → ℕ) (a z rz : ℕ) (taxa reaches : List ℕ) → Paired d a z rz taxa reaches 0 4000000
-paired_none d a z rz taxa reaches = record { least = λ s. ((λ h. (h, λ j l. absurd (omega arith))), (λ h. h.0)) }
-
 pub paired_turn : (d : ℕ → ℕ → ℕ) (a z rz : ℕ) (taxa reaches : List ℕ) (m : ℕ) {low v next : ℕ} → Paired d a z rz taxa reaches m low
     → Pairs d a (get_or taxa m 0) z (get_or reaches m 0) rz v → next ≡ min low v → Paired d a z rz taxa reaches (m + 1) next
 paired_turn d a z rz taxa reaches m {low} {v} {next} p e en = record { least = λ s. (there s, back s) }
@@ -63,9 +60,6 @@ module _ (n : ℕ) (entries : List ℕ) (accepted : AcceptedMatrix n entries) (k
       )
 
   module _ (taxa : List ℕ) (count w : ℕ) where
-    pub swept_none : Swept (distance n entries) k a c taxa count w 0 w
-    swept_none = record { least = λ t pt. ((λ h. (h, λ i j l. absurd (omega arith))), (λ h. h.0)) }
-
     -- what is at most a weight lowered by the partners of the taxon at i
     turn_at : (reaches : List ℕ) (i m : ℕ) {rz best low next : ℕ} (t : ℕ) → 1 ≤ t → i < count → Members k a c taxa count → Partners count i m
         → Reach (distance n entries) k k a c (get_or taxa i 0) rz → Reached (distance n entries) k a c taxa reaches (i + 1)

@@ -1,6 +1,5 @@
--- A look ahead, and the nearest neighbour. Assumes nothing.
-use Prim.Native.Nat.{ℕ, ◌+◌, ◌≤◌, ◌<◌}
-use native.Mathlib.Nat.{le_refl}
+-- A look ahead: the taxa of the other side, and what ends a trial. Assumes nothing.
+use Prim.Native.Nat.{ℕ, ◌+◌, ◌≤◌, ◌<◌, min}
 use native.Mathlib.Omega.{arith}
 use native.Mathlib.Decide.{dec_lt}
 use mathlib.Core.Path.{◌≡◌, sym, ◌∙◌, ap, subst}
@@ -8,6 +7,8 @@ use mathlib.Core.Logic.{◌≢◌}
 use mathlib.Core.Bool.{Bool, false}
 use mathlib.Core.List.{List}
 use lib.Dec.{T}
+use lib.ListN.{length, get_or, take}
+use Rattle.std.proofs.lemmas.List.{get_or_default, length-take, get_or-take}
 use lib.IntN.{ℤ, pos, sub_ℕ}
 use lib.Signed.{◌≤ℤ◌, lt_z}
 use Rattle.statement.specs.Cluster.{bit}
@@ -16,8 +17,19 @@ use Rattle.statement.specs.Growing.{pair_trial}
 use Rattle.statement.proofs.Matrix.{le_sub, of_score, above_zero}
 use Rattle.statement.proofs.Pairs.{trial_means}
 use Rattle.neighbours.specs.Reach.{Own, Reach}
-use Rattle.neighbours.specs.Near.{Nearest, Fails}
+use Rattle.neighbours.specs.Near.{Others, Fails}
 use Rattle.neighbours.proofs.Reaches.{half}
+
+-- an item of a list of taxa of the other side is one
+pub other_at : (k a c : ℕ) (taxa : List ℕ) → Others k a c taxa (length taxa) → (i x : ℕ) → i < length taxa → x ≡ get_or taxa i x → (x < k) × (bit c x ≢ bit c a)
+other_at k a c taxa h i x l e =
+    subst (λ (v : ℕ). (v < k) × (bit c v ≢ bit c a)) (sym (e ∙ get_or_default taxa i x 0 l)) (h i l)
+
+-- and so is each of its first taxa
+pub others_before : (k a c : ℕ) (taxa : List ℕ) → Others k a c taxa (length taxa) → (i : ℕ) → Others k a c (take i taxa) (length (take i taxa))
+others_before k a c taxa h i j l =
+    let few : j < min i (length taxa) = omega (arith, length-take i taxa) in
+    subst (λ (v : ℕ). (v < k) × (bit c v ≢ bit c a)) (sym (get_or-take i taxa j 0 (omega arith))) (h j (omega arith))
 
 -- WHERE some score is not above zero the trial says 0
 unsupported : (z : ℤ) → lt_z (pos 0) z ≡ false → pos 1 ≤ℤ z → ⊥
@@ -47,19 +59,3 @@ fails_zero n d k a c w fails = go (dec_lt 0 (pair_trial d k a c w))
     go (yes l) =
         let p = (trial_means n d k a c w 1 (omega arith)).0 (omega arith) in
         absurd (fails (λ x y z lx ly lz parted ax yz. p.1 x y z lx ly lz parted (ax, yz)))
-
--- THE NEAREST neighbour
-module _ (d : ℕ → ℕ → ℕ) (k : ℕ) where
-  pub nearest_one : Nearest d k 1 0
-  nearest_one = record { below = omega arith; least = λ i l. let e : i ≡ 0 = omega arith in rw e (le_refl (d k 0)); lowest = λ i l. absurd (omega arith) }
-
-  pub nearest_turn : (m near r : ℕ) → Nearest d k m near → r < m + 1 → d k r ≤ d k near → d k r ≤ d k m
-      → ((i : ℕ) → i < r → d k r < d k i) → Nearest d k (m + 1) r
-  nearest_turn m near r h l p q f = record { below = l; least = least; lowest = f }
-    where
-      least : (i : ℕ) → i < m + 1 → d k r ≤ d k i
-      least i li = go (dec_lt i m)
-        where
-          go : Dec (i < m) → d k r ≤ d k i
-          go (yes u) = omega (arith, h.least i u)
-          go (no u) = let e : i ≡ m = omega arith in rw e q

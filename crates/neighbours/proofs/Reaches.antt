@@ -3,13 +3,12 @@ use Prim.Native.Nat.{ℕ, ◌+◌, ◌-◌, ◌≤◌, ◌<◌, min}
 use native.Mathlib.Nat.{le_refl}
 use native.Mathlib.Omega.{arith}
 use native.Mathlib.Decide.{dec_lt, ℕ_discrete}
-use mathlib.Core.Path.{◌≡◌, refl, sym, ◌∙◌, ap, subst}
+use mathlib.Core.Path.{◌≡◌, sym, ◌∙◌, ap, subst}
 use mathlib.Core.Logic.{◌↔◌}
-use mathlib.Core.Bool.{Bool, true, false, not, ◌&&◌, ◌||◌, true≢false}
+use mathlib.Core.Bool.{Bool, true, false, not, ◌||◌, true≢false}
 use mathlib.Core.List.{List}
 use lib.Dec.{eqb}
 use lib.ListN.{length, set}
-use borrow.Author.Tests.{eqb-true, eqb-false}
 use Rattle.statement.specs.Cluster.{bit, Pair}
 use Rattle.statement.specs.Growing.{alone, pairs}
 use Rattle.statement.proofs.Pairs.{pairs_pair, pair_pairs}
@@ -32,36 +31,12 @@ own_tested k a c x {r} {s} e er es = ((λ h. (e, pairs_pair k c a x (sym p ∙ h
     p : r ≡ pairs k c a x
     p = er ∙ ap (λ (b : Bool). not (eqb a x) || b) es
 
-pub own_beside : (k a c x : ℕ) {r : Bool} → r ≡ (eqb (bit c x) (bit c a) && not (eqb x a)) → r ≡ true → Own k a c x
-own_beside k a c x e h = go (eqb (bit c x) (bit c a)) refl (eqb x a) refl (sym e ∙ h)
-  where
-    go : (p : Bool) → eqb (bit c x) (bit c a) ≡ p → (q : Bool) → eqb x a ≡ q → (p && not q) ≡ true → Own k a c x
-    go true ep false eq s = (eqb-true (bit c x) (bit c a) ep, λ w. absurd (eqb-false x a eq (sym w)))
-    go true ep true eq s = absurd (true≢false (sym s))
-    go false ep q eq s = absurd (true≢false (sym s))
-
 -- THE PULLS
 module _ (d : ℕ → ℕ → ℕ) (k a c : ℕ) where
-  pub pull_on : (x v r : ℕ) → Own k a c x → v ≡ d a x → v ≤ 1000000 → r ≡ 1000000 - v → Pull d k a c x r
-  pull_on x v r e ev l er = record { on = λ _. omega arith; off = λ n. absurd (n e) }
-
-  pub pull_off : (x : ℕ) → (Own k a c x → ⊥) → Pull d k a c x 3000000
-  pull_off x n = record { on = λ e. absurd (n e); off = λ _. refl }
-
-  pub pull_cap : (x p : ℕ) → Pull d k a c x p → p ≤ 3000000
-  pull_cap x p h = go (dec_own k a c x)
-    where
-      go : Dec (Own k a c x) → p ≤ 3000000
-      go (yes e) = omega (arith, h.on e)
-      go (no e) = omega (arith, h.off e)
-
   pub pulls_turn : (m p : ℕ) (all : List ℕ) → Pulls d k m a c all → m < length all → Pull d k a c m p → Pulls d k (m + 1) a c (set all m p)
   pulls_turn m p all h room new = stored (Pull d k a c) all m p room new h
 
 -- THE REACH of z
-pub reach_none : (d : ℕ → ℕ → ℕ) (k a c z : ℕ) → Reach d k 0 a c z 2000000
-reach_none d k a c z = record { least = λ s. ((λ h. (h, λ x l. absurd (omega arith))), (λ h. h.0)) }
-
 pub reach_turn : (d : ℕ → ℕ → ℕ) (k a c z x : ℕ) {low p v next : ℕ} → Reach d k x a c z low → Pull d k a c x p → v ≡ d x z → next ≡ min low (v + p)
     → Reach d k (x + 1) a c z next
 reach_turn d k a c z x {low} {p} {v} {next} r pull ev en = record { least = λ s. (there s, back s) }

@@ -1,3 +1,4 @@
 -- The root of the specs.
 pub mod Reach
 pub mod Near
+pub mod Seen

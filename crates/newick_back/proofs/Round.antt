@@ -7,7 +7,7 @@ use mathlib.Core.List.{List, [], ◌∷◌, ◌++◌, map}
 use lib.ListN.{length}
 use borrow.Author.Tests.{ne_eqb, le-ltb}
 use Rattle.statement.specs.declared.Splits.{Splits}
-use Rattle.statement.specs.declared.Outcome.TheVariants.{Done}
+use Rattle.statement.specs.Outcomes.{Done}
 use Rattle.statement.specs.Cluster.{bit, Out, group_of}
 use Rattle.statement.specs.Matrix.{weight_limit}
 use Rattle.statement.specs.Rows.{Row, row, clusters, rows_of, list_of}

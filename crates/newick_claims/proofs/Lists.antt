@@ -7,8 +7,7 @@ use mathlib.Core.Logic.{inl, inr, ◌↔◌}
 use mathlib.Core.Bool.{Bool, true, false, cond, not, true≢false}
 use mathlib.Core.List.{List, [], ◌∷◌, map}
 use Rattle.statement.specs.declared.Splits.{Splits}
-use Rattle.statement.specs.declared.Reading.{Reading}
-use Rattle.statement.specs.declared.Outcome.TheVariants.{Done}
+use Rattle.statement.specs.Outcomes.{Reading, Done}
 use Rattle.statement.specs.Cluster.{bit, In}
 use Rattle.statement.specs.Rows.{Row, row, Mem, rows_of, list_of}
 use Rattle.statement.specs.Tree.{sort_rows}

@@ -10,8 +10,7 @@ use lib.Dec.{eqb}
 use lib.ListN.{length}
 use borrow.Author.Tests.{eq-eqb, ne_eqb, eqb-true}
 use Rattle.statement.specs.declared.Splits.{Splits}
-use Rattle.statement.specs.declared.Reading.{Reading}
-use Rattle.statement.specs.declared.Outcome.TheVariants.{Done, Refused}
+use Rattle.statement.specs.Outcomes.{Reading, Done, Refused}
 use Rattle.statement.specs.Grammar.{IsSentence, FirstBad}
 use Rattle.statement.specs.Sentence.{Children, Parsed, outside, sentence, Parses, rows_read}
 use Rattle.statement.specs.Rows.{rows_of, list_of}

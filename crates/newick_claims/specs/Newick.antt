@@ -1,8 +1,7 @@
 -- THE PROMISES OF DOCUMENT 02, §2, as statements over the definitions of the crate `statement`.
 use Rattle.std.specs.Prelude.{ℕ, ◌≤◌, ◌<◌, ◌≡◌, ◌⊎◌, ◌↔◌, List, [], ◌∷◌, ◌++◌, map}
 use Rattle.statement.specs.declared.Splits.{Splits}
-use Rattle.statement.specs.declared.Reading.{Reading}
-use Rattle.statement.specs.declared.Outcome.TheVariants.{Done}
+use Rattle.statement.specs.Outcomes.{Reading, Done}
 use Rattle.statement.specs.Matrix.{weight_limit}
 use Rattle.statement.specs.Rows.{Row, row, Mem, rows_of, list_of, WellFormed}
 use Rattle.statement.specs.Sentence.{Children, Leaf, Edge, taxa_of, edges_at, split_made, clusters_of, semicolon_at}

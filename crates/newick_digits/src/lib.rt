@@ -12,7 +12,6 @@ pub fn put(out: &mut [u8], at: usize, b: u8) -> usize
 {
     if at < out.len() {
         out[at] = b;
-        return at + 1;
     }
     at + 1
 }
@@ -23,8 +22,8 @@ pub fn put_number(out: &mut [u8], at: usize, n: u64) -> usize
     ensures { (out.new ≡ sets out.old at (decimal n)) × (result ≡ at + length (decimal n)) }
 {
     if n < 10 {
-        return put(out, at, 48 + n as u8);
+        return put(out, at, b'0' + n as u8);
     }
     let p = put_number(out, at, n / 10);
-    put(out, p, 48 + (n % 10) as u8)
+    put(out, p, b'0' + (n % 10) as u8)
 }

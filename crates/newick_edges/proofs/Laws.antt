@@ -1,5 +1,6 @@
 -- Laws of the table's steps, for the proofs of the code. Assumes nothing.
 use Prim.Native.Nat.{ℕ, ◌≤◌, ◌<◌}
+use Rattle.std.specs.Prelude.{Option}
 use mathlib.Core.Path.{◌≡◌, ◌∙◌, ap}
 use borrow.Author.Tests.{lt-ltb, le-ltb, eq-eqb, ne_eqb}
 use Rattle.statement.specs.Matrix.{weight_limit}
@@ -11,11 +12,11 @@ module _ (t : Table) (place : ℕ) where
   unfolding note_heavy
   light_is w h = rw (le-ltb weight_limit w h)
 
-  pub heavy_is : (w p : ℕ) → weight_limit < w → p ≡ first_of t.heavy place → with_heavy t p ≡ note_heavy t place w
+  pub heavy_is : (w : ℕ) (p : Option ℕ) → weight_limit < w → p ≡ first_of t.heavy place → with_heavy t p ≡ note_heavy t place w
   unfolding note_heavy
   heavy_is w p h e = rw (lt-ltb weight_limit w h) (ap (with_heavy t) e)
 
-  pub bare_is : (p : ℕ) → p ≡ first_of t.bare place → with_bare t p ≡ note_bare t place
+  pub bare_is : (p : Option ℕ) → p ≡ first_of t.bare place → with_bare t p ≡ note_bare t place
   unfolding note_bare
   bare_is p e = ap (with_bare t) e
 

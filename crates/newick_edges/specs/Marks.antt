@@ -1,10 +1,12 @@
 -- Taxa met, and the side of an edge: the code's own steps.
-use Rattle.std.specs.Prelude.{ℕ, ◌+◌, ◌-◌, ◌^◌, Bool, cond, ◌&&◌, ltb, eqb}
+use Rattle.std.specs.Prelude.{ℕ, Option, Some, ◌+◌, ◌-◌, ◌^◌, Bool, cond, ◌&&◌, ltb, eqb}
+use Rattle.std.specs.Option.{option_or}
 use Rattle.statement.specs.Cluster.{bit}
 use Rattle.newick_edges.specs.declared.Met.{Met}
 
-abbrev pub first_of : ℕ → ℕ → ℕ
-first_of old place = cond (eqb old 0) place old
+-- the place noted, where none was
+abbrev pub first_of : Option ℕ → ℕ → Option ℕ
+first_of old place = option_or old (Some place)
 
 abbrev pub fresh : ℕ → ℕ → ℕ → Bool
 fresh n seen x = ltb x n && eqb (bit seen x) 0

@@ -1,27 +1,31 @@
 -- The table of edges: the code's own steps.
-use Rattle.std.specs.Prelude.{ℕ, ◌+◌, cond, List, ltb, eqb, get_or, set, replicate}
+use Rattle.std.specs.Prelude.{ℕ, ◌+◌, Bool, cond, not, Option, Some, None, List, map, ltb, eqb, get_or, set, replicate}
 use Rattle.statement.specs.Lowest.{lowest}
 use Rattle.statement.specs.Matrix.{weight_limit}
 use Rattle.newick_edges.specs.Marks.{first_of}
-use Rattle.newick_edges.specs.declared.Noted.{Noted}
+use Rattle.newick_edges.specs.declared.Table.{Table as Kept}
 
 -- the edges so far: what is noted of them, and the columns
 pub record Table : Type 0 where
-  pub heavy : ℕ
-  pub bare : ℕ
+  pub heavy : Option ℕ
+  pub bare : Option ℕ
   pub rows : ℕ
   pub clusters : List ℕ
   pub weights : List ℕ
   pub places : List ℕ
   pub many : List ℕ
 
-abbrev pub table_in : Noted → List ℕ → List ℕ → List ℕ → List ℕ → Table
-table_in t cs ws ps ms = record { heavy = t.heavy; bare = t.bare; rows = t.rows; clusters = cs; weights = ws; places = ps; many = ms }
+-- 1 for a row whose cluster another edge had
+abbrev pub mark : Bool → ℕ
+mark b = cond b 1 0
 
-abbrev pub with_heavy : Table → ℕ → Table
+abbrev pub table_in : Kept → Table
+table_in t = record { heavy = t.heavy; bare = t.bare; rows = t.rows; clusters = t.clusters; weights = t.weights; places = t.places; many = map mark t.many }
+
+abbrev pub with_heavy : Table → Option ℕ → Table
 with_heavy t p = record { heavy = p; bare = t.bare; rows = t.rows; clusters = t.clusters; weights = t.weights; places = t.places; many = t.many }
 
-abbrev pub with_bare : Table → ℕ → Table
+abbrev pub with_bare : Table → Option ℕ → Table
 with_bare t p = record { heavy = t.heavy; bare = p; rows = t.rows; clusters = t.clusters; weights = t.weights; places = t.places; many = t.many }
 
 unfoldable pub note_heavy : Table → ℕ → ℕ → Table
@@ -55,4 +59,12 @@ unfoldable pub enter : Table → ℕ → ℕ → ℕ → Table
 enter t place c w = cond (eqb w 0) t (cond (eqb c 0) (note_bare (note_heavy t place w) place) (added (note_heavy t place w) place c w))
 
 abbrev pub no_table : Table
-no_table = record { heavy = 0; bare = 0; rows = 0; clusters = replicate 125 0; weights = replicate 125 0; places = replicate 125 0; many = replicate 125 0 }
+no_table = record { heavy = None; bare = None; rows = 0; clusters = replicate 125 0; weights = replicate 125 0; places = replicate 125 0; many = replicate 125 0 }
+
+-- the first of the rows that are marked
+abbrev pub marked_row : Table → ℕ
+marked_row t = lowest (λ j. not (eqb (get_or t.many j 0) 0)) t.rows
+
+-- the place of its edge
+abbrev pub twin : Table → Option ℕ
+twin t = cond (ltb (marked_row t) t.rows) (Some (get_or t.places (marked_row t) 0)) None

@@ -1,7 +1,7 @@
 -- THE RECORD OF A TEXT: that of the tree of the list that it reads as; none where it is refused.
 use Rattle.std.specs.Prelude.{ℕ, ◌≤◌, ◌≡◌, List, [], ◌++◌, length, take}
 use Rattle.statement.specs.declared.Splits.{Splits}
-use Rattle.statement.specs.declared.Outcome.TheVariants.{Done}
+use Rattle.statement.specs.Outcomes.{Done}
 use Rattle.statement.specs.Matrix.{weight_limit}
 use Rattle.statement.specs.Rows.{rows_of, WellFormed}
 use Rattle.statement.specs.Tree.{tree_of}

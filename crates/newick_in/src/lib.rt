@@ -1,34 +1,29 @@
 // A Newick text of n taxa to the record of its tree, or to one line that says what is wrong with it. Document 02, §2.
 #![tactic(auto)]
 
-ghost use Rattle.std.specs.Prelude.{◌≡◌, ◌⊎◌, ◌≤◌, IfOk, OnErr, [], length, take, get_or};
-ghost use Rattle.statement.specs.declared.Outcome.TheVariants.{Done};
+ghost use Rattle.std.specs.Prelude.{◌≡◌, ◌≤◌, IfOk, IfSome, OnErr, [], length, take, get_or};
+ghost use Rattle.statement.specs.Outcomes.{Done};
 ghost use Rattle.statement.specs.Record.{record_length};
 ghost use Rattle.statement.specs.Calls.{write_tree};
 ghost use Rattle.numerals.specs.Numerals.{numbers_in};
 ghost use Rattle.newick_in.specs.Records.{Covers, IsPrefixLen, record_of_list, record_of_text};
 
-use statement::{Outcome, Splits};
+use numerals::{Fault, count, first_wrong, number_of};
+use statement::{Kind, Splits};
 use std::io;
 
-// The number of taxa that a word says, 2 to 64; else 0.
-pub fn taxa_in(word: &[u8]) -> usize
-    ensures { (result ≡ 0) ⊎ ((2 ≤ result) × (result ≤ 64) × (result ≡ get_or (numbers_in word.now) 0 0)) }
+// The number of taxa that a word says, from 2 to 64.
+pub fn taxa_in(word: &[u8]) -> Option<usize>
+    ensures { IfSome result (λ n. (2 ≤ n) × (n ≤ 64) × (n ≡ get_or (numbers_in word.now) 0 0)) }
 {
-    if numerals::first_wrong(1, word) != word.len() {
-        return 0;
+    if first_wrong(Fault::Strange, word) != word.len() || count(word) != 1 {
+        return None;
     }
-    if numerals::count(word) != 1 {
-        return 0;
+    let n = number_of(word, 0);
+    if n < 2 || n > 64 {
+        return None;
     }
-    let n = numerals::number_of(word, 0);
-    if n < 2 {
-        return 0;
-    }
-    if n > 64 {
-        return 0;
-    }
-    n as usize
+    Some(n as usize)
 }
 
 // The record of a list's tree into a slice of its length, by way of its body.
@@ -36,8 +31,8 @@ fn put_record(n: usize, list: Splits, body: &mut [u8], out: &mut [u8])
     requires { (n ≤ 64) × (write_tree n list body.old ≡ Done) × (length out.old ≡ record_length (length body.old)) }
     ensures { out.new ≡ record_of_list n list }
 {
-    tree_write::write_tree(n, list, body);
-    record_write::lay_out(3, n as u8, body, out);
+    tree_write::write_tree(n, list, body).unwrap();
+    record_write::lay_out(Kind::Tree, n as u8, body, out);
 }
 
 // The same at the start of a slice, and the record's length.
@@ -67,11 +62,11 @@ pub fn answer(
     ensures err { OnErr result (out.new ≡ out.old) }
     ensures err_refused { OnErr result (record_of_text n text.now ≡ []) }
 {
-    let read = newick_read::read_newick(n, text);
-    let said = read.outcome;
-    if let Outcome::Refused(no, place) = said {
-        newick_reasons::refused(rt, n, no, place, text, more)?;
-        return Ok(0);
+    match newick_read::read_newick(n, text) {
+        Ok(list) => Ok(put_list(n, list, out)),
+        Err(refusal) => {
+            newick_reasons::refused(rt, n, refusal, text, more)?;
+            Ok(0)
+        }
     }
-    Ok(put_list(n, read.list, out))
 }

@@ -4,7 +4,7 @@ use native.Mathlib.Omega.{arith}
 use mathlib.Core.Path.{◌≡◌, refl, ap}
 use mathlib.Core.Bool.{true}
 use mathlib.Core.List.{[], ◌∷◌}
-use Rattle.statement.specs.declared.Outcome.TheVariants.{Refused}
+use Rattle.statement.specs.Outcomes.{Refused}
 use Rattle.statement.specs.Cluster.{group_of}
 use Rattle.statement.specs.Lowest.{lowest_from}
 use Rattle.statement.specs.Rows.{row, rows_of, list_of, filled}

@@ -6,8 +6,7 @@ use mathlib.Core.Bool.{false, cond, not}
 use mathlib.Core.List.{List, [], ◌∷◌, ◌++◌, map}
 use lib.Dec.{ltb, eqb}
 use lib.ListN.{drop}
-use Rattle.statement.specs.declared.Reading.{Reading}
-use Rattle.statement.specs.declared.Outcome.TheVariants.{Done}
+use Rattle.statement.specs.Outcomes.{Reading, Done}
 use Rattle.statement.specs.Matrix.{weight_limit}
 use Rattle.statement.specs.Lowest.{somewhere}
 use Rattle.statement.specs.Rows.{list_of}

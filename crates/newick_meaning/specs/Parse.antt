@@ -2,7 +2,7 @@
 -- the grammar says of the text, and the only thing it can say, is proved in proofs/Parses.antt and proofs/Unique.antt.
 use Rattle.std.specs.Prelude.{ℕ, ◌-◌, ◌≡◌, refl, List, length}
 use Rattle.newick_text.specs.Automaton.{Out, bad, good, start, run}
-use Rattle.statement.specs.declared.Reading.{Reading}
+use Rattle.statement.specs.Outcomes.{Reading}
 use Rattle.statement.specs.Sentence.{Parsed, outside, sentence}
 use Rattle.statement.specs.Calls.{reading_of}
 use Rattle.newick_text.proofs.Sound.{sound}

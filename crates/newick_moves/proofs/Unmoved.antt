@@ -4,7 +4,7 @@ use native.Mathlib.Omega.{arith}
 use mathlib.Core.Path.{◌≡◌, sym, ◌∙◌, ap}
 use mathlib.Core.List.{List, [], ◌∷◌, ◌++◌, map}
 use lib.Dec.{ltb, eqb}
-use Rattle.statement.specs.declared.Outcome.TheVariants.{Done}
+use Rattle.statement.specs.Outcomes.{Done}
 use Rattle.statement.specs.Matrix.{weight_limit}
 use Rattle.statement.specs.Rows.{Row, list_of}
 use Rattle.statement.specs.Tree.{sort_rows}

@@ -1,4 +1,6 @@
 -- The table as a list of rows: an edge entered is a row more, or a row marked. Assumes nothing.
+use Rattle.std.specs.Prelude.{Option, None}
+use Rattle.std.specs.Option.{option_or}
 use Prim.Native.Nat.{ℕ, zero, suc, ◌+◌, ◌-◌, ◌≤◌, ◌<◌}
 use native.Mathlib.Omega.{arith}
 use mathlib.Core.Path.{◌≡◌, refl, sym, ◌∙◌, ap, ap₂}
@@ -15,7 +17,7 @@ use Rattle.statement.specs.Rows.{filled}
 use Rattle.statement.proofs.Lowest.{lowest_same}
 use Rattle.newick_edges.specs.Marks.{first_of}
 use Rattle.newick_edges.specs.Table.{Table, with_heavy, with_bare, note_heavy, note_bare, found, added, enter, no_table}
-use Rattle.newick_noted.proofs.Taxa.{head_or, first_none, first_kept, both}
+use Rattle.newick_noted.proofs.Taxa.{head, first_none, first_kept, both}
 use Rattle.newick_noted.proofs.Play.{Entry, entry, enter_all}
 
 -- a row of the table
@@ -31,7 +33,7 @@ held e = record { cluster = e.cluster; weight = e.weight; place = e.place; many 
 abbrev pub again : Held → Held
 again r = record { cluster = r.cluster; weight = r.weight; place = r.place; many = 1 }
 
-abbrev pub table_of : ℕ → ℕ → List Held → Table
+abbrev pub table_of : Option ℕ → Option ℕ → List Held → Table
 table_of h b R = record {
   heavy = h;
   bare = b;
@@ -42,7 +44,7 @@ table_of h b R = record {
   many = filled (map (λ r. r.many) R);
 }
 
-pub no_table_law : no_table ≡ table_of 0 0 []
+pub no_table_law : no_table ≡ table_of None None []
 unfolding filled
 no_table_law = refl
 
@@ -179,12 +181,12 @@ module _ (e : Entry) where
       go false h = omega arith
 
 -- two tables with equal fields
-tables : (h b m m' : ℕ) (cs cs' ws ws' ps ps' ms ms' : List ℕ) → m ≡ m' → cs ≡ cs' → ws ≡ ws' → ps ≡ ps' → ms ≡ ms'
+tables : (h b : Option ℕ) (m m' : ℕ) (cs cs' ws ws' ps ps' ms ms' : List ℕ) → m ≡ m' → cs ≡ cs' → ws ≡ ws' → ps ≡ ps' → ms ≡ ms'
     → ◌≡◌ {A = Table} (record { heavy = h; bare = b; rows = m; clusters = cs; weights = ws; places = ps; many = ms })
     (record { heavy = h; bare = b; rows = m'; clusters = cs'; weights = ws'; places = ps'; many = ms' })
 tables h b m m' cs cs' ws ws' ps ps' ms ms' em ec ew ep es = λ i. record { heavy = h; bare = b; rows = em i; clusters = ec i; weights = ew i; places = ep i; many = es i }
 
-module _ (h b : ℕ) (R : List Held) (p c w : ℕ) where
+module _ (h b : Option ℕ) (R : List Held) (p c w : ℕ) where
   found_is : found (table_of h b R) c ≡ pos_by (λ x. eqb x c) (map (λ r. r.cluster) R)
   found_is =
       ap (lowest (λ j. eqb (get_or (filled (map (λ r. r.cluster) R)) j 0) c)) (sym (length-map R (λ r. r.cluster)))
@@ -224,16 +226,16 @@ module _ (h b : ℕ) (R : List Held) (p c w : ℕ) where
               ∙ ap (λ (x : ℕ). filled (map g R ++ (x ∷ []))) (sym e) ∙ ap filled (sym (map-append g R (held (entry p c w) ∷ [])))
 
   -- ENTERED
-  abbrev pub heavy1 : ℕ
+  abbrev pub heavy1 : Option ℕ
   heavy1 = cond (eqb w 0) h (cond (ltb weight_limit w) (first_of h p) h)
 
-  abbrev pub bare1 : ℕ
+  abbrev pub bare1 : Option ℕ
   bare1 = cond (eqb w 0) b (cond (eqb c 0) (first_of b p) b)
 
   abbrev pub rows1 : List Held
   rows1 = cond (eqb w 0) R (cond (eqb c 0) R (add_to R (entry p c w)))
 
-heavy_is : (h b : ℕ) (R : List Held) (p w : ℕ) → note_heavy (table_of h b R) p w ≡ table_of (cond (ltb weight_limit w) (first_of h p) h) b R
+heavy_is : (h b : Option ℕ) (R : List Held) (p w : ℕ) → note_heavy (table_of h b R) p w ≡ table_of (cond (ltb weight_limit w) (first_of h p) h) b R
 unfolding note_heavy
 heavy_is h b R p w = go (ltb weight_limit w)
   where
@@ -241,7 +243,7 @@ heavy_is h b R p w = go (ltb weight_limit w)
     go true = refl
     go false = refl
 
-pub enter_one : (h b : ℕ) (R : List Held) (p c w : ℕ) → length (rows1 h b R p c w) ≤ 125
+pub enter_one : (h b : Option ℕ) (R : List Held) (p c w : ℕ) → length (rows1 h b R p c w) ≤ 125
     → enter (table_of h b R) p c w ≡ table_of (heavy1 h b R p c w) (bare1 h b R p c w) (rows1 h b R p c w)
 unfolding enter note_bare
 enter_one h b R p c w few = go (eqb w 0) (eqb c 0) few
@@ -280,29 +282,29 @@ abbrev pub Placed : List Entry → Type 0
 Placed [] = Unit {0}
 Placed (e ∷ es) = (0 < e.place) × Placed es
 
-first_step : (h p q : ℕ) (x y : Bool) (ps : List ℕ) → 0 < p
-    → first_of (cond x h (cond y (first_of h p) h)) (head_or 0 ps) ≡ first_of h (head_or 0 (cond x ps (cond y (p ∷ ps) ps)))
-unfolding head_or
-first_step h p q true y ps l = refl
-first_step h p q false true ps l = first_kept h p (head_or 0 ps) l
-first_step h p q false false ps l = refl
+first_step : (h : Option ℕ) (p : ℕ) (x y : Bool) (ps : List ℕ)
+    → option_or (cond x h (cond y (first_of h p) h)) (head ps) ≡ option_or h (head (cond x ps (cond y (p ∷ ps) ps)))
+unfolding head
+first_step h p true y ps = refl
+first_step h p false true ps = first_kept h p (head ps)
+first_step h p false false ps = refl
 
-pub enter_all_law : (es : List Entry) (h b : ℕ) (R : List Held) → Placed es → length (add_all R (solid es)) ≤ 125
-    → enter_all es (table_of h b R) ≡ table_of (first_of h (head_or 0 (heavies es))) (first_of b (head_or 0 (bares es))) (add_all R (solid es))
-unfolding heavies bares solid add_all head_or
-enter_all_law [] h b R pl few = ap₂ (λ (x y : ℕ). table_of x y R) (sym (first_none h)) (sym (first_none b))
-enter_all_law (e ∷ es) h b R pl few =
+pub enter_all_law : (es : List Entry) (h b : Option ℕ) (R : List Held) → length (add_all R (solid es)) ≤ 125
+    → enter_all es (table_of h b R) ≡ table_of (option_or h (head (heavies es))) (option_or b (head (bares es))) (add_all R (solid es))
+unfolding heavies bares solid add_all head
+enter_all_law [] h b R few = ap₂ (λ (x y : Option ℕ). table_of x y R) (sym (first_none h)) (sym (first_none b))
+enter_all_law (e ∷ es) h b R few =
     let p = e.place in let c = e.cluster in let w = e.weight in
     let r = rows_step (eqb w 0) (eqb c 0) in
     let few' : length (add_all (rows1 h b R p c w) (solid es)) ≤ 125 = omega (arith, ap length r) in
     ap (enter_all es) (enter_one h b R p c w (omega (arith, all_longer (solid es) (rows1 h b R p c w))))
-    ∙ enter_all_law es (heavy1 h b R p c w) (bare1 h b R p c w) (rows1 h b R p c w) pl.1 few'
-    ∙ three (first_step h p 0 (eqb w 0) (ltb weight_limit w) (heavies es) pl.0) (first_step b p 0 (eqb w 0) (eqb c 0) (bares es) pl.0) r
+    ∙ enter_all_law es (heavy1 h b R p c w) (bare1 h b R p c w) (rows1 h b R p c w) few'
+    ∙ three (first_step h p (eqb w 0) (ltb weight_limit w) (heavies es)) (first_step b p (eqb w 0) (eqb c 0) (bares es)) r
   where
     rows_step : (x y : Bool) → add_all (cond x R (cond y R (add_to R (entry e.place e.cluster e.weight)))) (solid es) ≡ add_all R (cond x (solid es) (cond y (solid es) (e ∷ solid es)))
     rows_step true y = refl
     rows_step false true = refl
     rows_step false false = refl
 
-    three : {a a' k k' : ℕ} {r r' : List Held} → a ≡ a' → k ≡ k' → r ≡ r' → table_of a k r ≡ table_of a' k' r'
-    three {a} {a'} {k} {k'} {r} {r'} p q s = ap₂ (λ (x y : ℕ). table_of x y r) p q ∙ ap (table_of a' k') s
+    three : {a a' k k' : Option ℕ} {r r' : List Held} → a ≡ a' → k ≡ k' → r ≡ r' → table_of a k r ≡ table_of a' k' r'
+    three {a} {a'} {k} {k'} {r} {r'} p q s = ap₂ (λ (x y : Option ℕ). table_of x y r) p q ∙ ap (table_of a' k') s

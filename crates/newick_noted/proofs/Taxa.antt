@@ -1,4 +1,6 @@
 -- The taxa of a sentence, met one after the other. Assumes nothing.
+use Rattle.std.specs.Prelude.{Option, None, Some}
+use Rattle.std.specs.Option.{option_or}
 use Prim.Native.Nat.{ℕ, ◌+◌, ◌^◌, ◌≤◌, ◌<◌, min}
 use native.Mathlib.Omega.{arith}
 use native.Mathlib.Decide.{dec_lt, ℕ_discrete}
@@ -85,11 +87,18 @@ unfoldable pub head_or : ℕ → List ℕ → ℕ
 head_or d [] = d
 head_or d (p ∷ ps) = p
 
-pub first_none : (s : ℕ) → first_of s 0 ≡ s
-first_none s = elim (ℕ_discrete s 0) [ yes e ↦ rw e | no f ↦ rw (ne_eqb s 0 f) ]
+-- the first of them
+unfoldable pub head : List ℕ → Option ℕ
+head [] = None
+head (p ∷ ps) = Some p
 
-pub first_kept : (s p q : ℕ) → 0 < p → first_of (first_of s p) q ≡ first_of s p
-first_kept s p q l = elim (ℕ_discrete s 0) [ yes e ↦ rw (eq-eqb s 0 e, ne_eqb p 0 (λ z. omega arith)) | no f ↦ rw (ne_eqb s 0 f, ne_eqb s 0 f) ]
+pub first_none : (s : Option ℕ) → option_or s None ≡ s
+first_none None = refl
+first_none (Some p) = refl
+
+pub first_kept : (s : Option ℕ) (p : ℕ) (o : Option ℕ) → option_or (first_of s p) o ≡ first_of s p
+first_kept None p o = refl
+first_kept (Some q) p o = refl
 
 module _ (n : ℕ) (few : n ≤ 64) where
   abbrev pub is_stray : List ℕ → ℕ → Bool
@@ -112,28 +121,20 @@ module _ (n : ℕ) (few : n ≤ 64) where
   met_seen [] before m e = e
   met_seen (l ∷ ls) before m e = met_seen ls (l.taxon ∷ before) (meet n m l.place (min l.taxon number_limit)) (meets_it before m l.place l.taxon e).0
 
-  -- the places of leaves are not 0
-  abbrev pub Placed : List Leaf → Type 0
-  Placed [] = Unit {0}
-  Placed (l ∷ ls) = (0 < l.place) × Placed ls
-
-  pub met_all : (ls : List Leaf) (before : List ℕ) (m : Met) → Placed ls → m.seen ≡ met_group n before
-      → ((meet_all n ls m).seen ≡ met_group n (turned (taxa ls) before)) × ((meet_all n ls m).stray ≡ first_of m.stray (head_or 0 (strays n before ls)))
-  unfolding strays head_or
-  met_all [] before m h e = (e, sym (first_none m.stray))
-  met_all (l ∷ ls) before m h e =
+  pub met_all : (ls : List Leaf) (before : List ℕ) (m : Met) → m.seen ≡ met_group n before
+      → ((meet_all n ls m).seen ≡ met_group n (turned (taxa ls) before)) × ((meet_all n ls m).stray ≡ option_or m.stray (head (strays n before ls)))
+  unfolding strays head
+  met_all [] before m e = (e, sym (first_none m.stray))
+  met_all (l ∷ ls) before m e =
       let a = meets_it before m l.place l.taxon e in
-      let b = met_all ls (l.taxon ∷ before) (meet n m l.place (min l.taxon number_limit)) h.1 a.0 in
+      let b = met_all ls (l.taxon ∷ before) (meet n m l.place (min l.taxon number_limit)) a.0 in
       (b.0, go (is_stray before l.taxon) a.1 b.1)
     where
-      rest : List ℕ
-      rest = strays n (l.taxon ∷ before) ls
-
       go : (b : Bool) → (meet n m l.place (min l.taxon number_limit)).stray ≡ cond b (first_of m.stray l.place) m.stray
-          → (meet_all n ls (meet n m l.place (min l.taxon number_limit))).stray ≡ first_of (meet n m l.place (min l.taxon number_limit)).stray (head_or 0 (strays n (l.taxon ∷ before) ls))
-          → (meet_all n ls (meet n m l.place (min l.taxon number_limit))).stray ≡ first_of m.stray (head_or 0 (cond b (l.place ∷ strays n (l.taxon ∷ before) ls) (strays n (l.taxon ∷ before) ls)))
-      go true p q = q ∙ ap (λ (s : ℕ). first_of s (head_or 0 (strays n (l.taxon ∷ before) ls))) p ∙ first_kept m.stray l.place (head_or 0 (strays n (l.taxon ∷ before) ls)) h.0
-      go false p q = q ∙ ap (λ (s : ℕ). first_of s (head_or 0 (strays n (l.taxon ∷ before) ls))) p
+          → (meet_all n ls (meet n m l.place (min l.taxon number_limit))).stray ≡ option_or (meet n m l.place (min l.taxon number_limit)).stray (head (strays n (l.taxon ∷ before) ls))
+          → (meet_all n ls (meet n m l.place (min l.taxon number_limit))).stray ≡ option_or m.stray (head (cond b (l.place ∷ strays n (l.taxon ∷ before) ls) (strays n (l.taxon ∷ before) ls)))
+      go true p q = q ∙ ap (λ (s : Option ℕ). option_or s (head (strays n (l.taxon ∷ before) ls))) p ∙ first_kept m.stray l.place (head (strays n (l.taxon ∷ before) ls))
+      go false p q = q ∙ ap (λ (s : Option ℕ). option_or s (head (strays n (l.taxon ∷ before) ls))) p
 
 -- NO STRAYS: taxa below n, each once, and none of those before
 abbrev pub Good : ℕ → List ℕ → List ℕ → Type 0

@@ -1,4 +1,5 @@
 -- THE WALK over a whole sentence. Assumes nothing.
+use Rattle.std.specs.Prelude.{None}
 use Prim.Native.Nat.{ℕ, ◌+◌, ◌-◌}
 use native.Mathlib.Omega.{arith}
 use mathlib.Core.Path.{◌≡◌, refl, ◌∙◌, ap}
@@ -17,7 +18,7 @@ use Rattle.newick_noted.proofs.Tokens.{bytes_tokens, tokens_sep}
 use Rattle.newick_noted.proofs.Play.{enter_all, entries_at, Here, open_step, Ran, kids_play}
 
 abbrev pub none_met : Met
-none_met = record { seen = 0; stray = 0 }
+none_met = record { seen = 0; stray = None }
 
 -- what the walk comes to
 pub record Walked (n : ℕ) (f : Children) (r : Walk) : Type 0 where

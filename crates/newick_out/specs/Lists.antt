@@ -1,7 +1,6 @@
 -- THE LIST OF A RECORD of any kind: a matrix or a table is run, a tree is read.
 use Rattle.std.specs.Prelude.{ℕ, cond, List, eqb}
-use Rattle.statement.specs.declared.Growth.{Growth}
-use Rattle.statement.specs.declared.Reading.{Reading}
+use Rattle.statement.specs.Outcomes.{Growth, Reading}
 use Rattle.statement.specs.Record.{kind_in, taxa_in, body_in}
 use Rattle.statement.specs.Calls.{unless_refused, refused_reading, read_tree, find_record, run_record}
 

@@ -8,9 +8,7 @@ use mathlib.Core.List.{List, [], ◌∷◌, ◌++◌, map}
 use lib.Dec.{ltb, eqb}
 use lib.Pow.{pow_pos}
 use borrow.Author.Tests.{ltb-false, eqb-false, eq-eqb}
-use Rattle.statement.specs.declared.Reading.{Reading}
-use Rattle.statement.specs.declared.Outcome.{Outcome}
-use Rattle.statement.specs.declared.Outcome.TheVariants.{Done, Short, Refused}
+use Rattle.statement.specs.Outcomes.{Reading, Outcome, Done, Short, Refused}
 use Rattle.statement.specs.Cluster.{bit, Split, Conflict}
 use Rattle.statement.specs.Matrix.{weight_limit}
 use Rattle.statement.specs.Rows.{Row, clusters, list_of, Mem, Ascending, WellFormed}

@@ -1,4 +1,5 @@
 -- The places of leaves and edges ascend, so the first of a list of bad places is the lowest. Assumes nothing.
+use Rattle.std.specs.Prelude.{Some, None}
 use Prim.Native.Nat.{ℕ, suc, ◌+◌, ◌≤◌, ◌<◌}
 use native.Mathlib.Omega.{arith}
 use mathlib.Core.Path.{◌≡◌, refl, sym, ◌∙◌, ap, subst}
@@ -6,7 +7,7 @@ use mathlib.Core.Bool.{Bool, true, false, cond, not, ◌||◌}
 use mathlib.Core.List.{List, [], ◌∷◌, map, map-append}
 use lib.Dec.{ltb, eqb}
 use borrow.Author.Tests.{eq-eqb, ne_eqb}
-use Rattle.statement.specs.declared.Outcome.TheVariants.{Refused}
+use Rattle.statement.specs.Outcomes.{Refused}
 use Rattle.statement.specs.Rows.{Ascending}
 use Rattle.statement.specs.Refusals.{Check, outcome_of, places_of, strays, twins, bad_at}
 use Rattle.statement.proofs.Lowest.{lowest_at, lowest_none, none_at}
@@ -97,10 +98,6 @@ kept_up lo hi (e ∷ es) h = go (eqb e.weight 0) (kept_up (suc e.place) hi es h.
     go false k = (h.0, k)
 
 -- none of them 0
-pub leaves_placed : (n : ℕ) (few : n ≤ 64) (lo hi : ℕ) (ls : List Leaf) → 0 < lo → Ascending lo hi (leaf_places ls) → taxa.Placed n few ls
-leaves_placed n few lo hi [] l h = tt
-leaves_placed n few lo hi (x ∷ xs) l h = (omega (arith, h.0), leaves_placed n few (suc x.place) hi xs (omega arith) h.1)
-
 pub edges_placed : (n lo hi : ℕ) (es : List Edge) → 0 < lo → Ascending lo hi (edge_places es) → rows.Placed (map (entry_of n) es)
 edges_placed n lo hi [] l h = tt
 edges_placed n lo hi (x ∷ xs) l h = (omega (arith, h.0), edges_placed n (suc x.place) hi xs (omega arith) h.1)
@@ -121,11 +118,22 @@ module _ (number m : ℕ) (cs : List Check) where
       refused_at (bad_at number (p ∷ ps) m) cs p
       (sym (lowest_at (λ i. among i (p ∷ ps)) m p l (rw (eq-eqb p p refl)) (λ j k. rw (ne_eqb j p (λ e. omega arith)) (below_first (suc p) m j ps h.1 (omega arith))))) l
 
-  -- by the first of them, 0 where there is none
+  -- by the first of them
+  pub bad_found : (p : ℕ) (ps : List ℕ) → Ascending 1 m ps → taxa.head ps ≡ Some p → outcome_of (bad_at number ps m ∷ cs) ≡ Refused number p
+  unfolding taxa.head
+  bad_found p [] h e = absurd (let z : ◌≡◌ {A = ℕ} 0 1 = cc in omega arith)
+  bad_found p (q ∷ ps) h e = bad_refused q ps (asc_lower 0 1 m (q ∷ ps) (omega arith) h) ∙ ap (Refused number) (let z : q ≡ p = cc in z)
+
+  -- the same, with 0 where there is none
   pub bad_first : (p : ℕ) (ps : List ℕ) → Ascending 1 m ps → p ≡ taxa.head_or 0 ps → (p ≡ 0 → ⊥) → outcome_of (bad_at number ps m ∷ cs) ≡ Refused number p
   unfolding taxa.head_or
   bad_first p [] h e f = absurd (f e)
   bad_first p (q ∷ ps) h e f = bad_refused q ps (asc_lower 0 1 m (q ∷ ps) (omega arith) h) ∙ ap (Refused number) (sym e)
+
+pub none_found : (ps : List ℕ) → taxa.head ps ≡ None → ps ≡ []
+unfolding taxa.head
+none_found [] e = refl
+none_found (q ∷ ps) e = absurd (let z : ◌≡◌ {A = ℕ} 0 1 = cc in omega arith)
 
 pub none_first : (m : ℕ) (ps : List ℕ) → Ascending 1 m ps → taxa.head_or 0 ps ≡ 0 → ps ≡ []
 unfolding taxa.head_or

@@ -1,4 +1,5 @@
 -- THE WAYS OUT of a reading: what the walk has noted, as the reply. Assumes nothing.
+use Rattle.std.specs.Prelude.{Some, None}
 use Prim.Native.Nat.{ℕ, suc, ◌+◌, ◌-◌, ◌*◌, ◌^◌, ◌≤◌, ◌<◌}
 use native.Mathlib.Omega.{arith}
 use mathlib.Core.Path.{◌≡◌, refl, sym, ◌∙◌, ap, ap₂, subst}
@@ -9,8 +10,7 @@ use lib.Dec.{ltb, eqb}
 use lib.ListN.{length, get_or, length-map}
 use borrow.Author.Tests.{lt-ltb, le-ltb, not-true, not-false}
 use Rattle.statement.specs.declared.Splits.{Splits}
-use Rattle.statement.specs.declared.Reading.{Reading}
-use Rattle.statement.specs.declared.Outcome.TheVariants.{Done, Refused}
+use Rattle.statement.specs.Outcomes.{Reading, Done, Refused}
 use Rattle.statement.specs.Lowest.{lowest, somewhere}
 use Rattle.statement.specs.Rows.{row, list_of, filled, Ascending}
 use Rattle.statement.specs.Refusals.{Check, outcome_of, places_of, strays, twins, missing, bad_at, sentence_checks, text_checks, newick_checks}
@@ -24,14 +24,14 @@ use Rattle.statement.specs.Sentence.{Children, among, size, taxa_of, edges_at, P
 use Rattle.newick_meaning.specs.Parse.{parsed, read_newick}
 use Rattle.newick_walk.specs.Machine.{Walk}
 use Rattle.newick_noted.proofs.Groups.{group_none, group_all, group_some}
-use Rattle.newick_noted.proofs.Taxa.{head_or, met_group, met_all, Good, good_of, turned, group_turned, total, total_group, both}
+use Rattle.newick_noted.proofs.Taxa.{head, head_or, met_group, met_all, Good, good_of, turned, group_turned, total, total_group, both}
 use Rattle.newick_noted.proofs.Whole.{none_met, Walked}
 use Rattle.newick_noted.proofs.Edges.{taxa_leaves, entry_of, entries_are}
 use Rattle.newick_noted.proofs.Play.{Entry, enter_all}
 use Rattle.newick_noted.proofs.Rows.{Held, held, table_of, no_table_law, solid, add_all, enter_all_law, pos_by, pos_filled, Placed}
 use Rattle.newick_noted.proofs.Once.{fresh_none, many_places, twins_many, twins_none}
 use Rattle.newick_reading.proofs.Room.{enough}
-use Rattle.newick_reading.proofs.Places.{asc_between, leaves_up, edges_up, strays_up, places_up, twins_up, kept_up, leaves_placed, edges_placed, bad_passed, bad_refused, bad_first, none_first}
+use Rattle.newick_reading.proofs.Places.{asc_between, leaves_up, edges_up, strays_up, places_up, twins_up, kept_up, edges_placed, bad_passed, bad_refused, bad_found, bad_first, none_found, none_first}
 use Rattle.newick_reading.proofs.Same.{too_heavy, is_bare, heavies_are, bares_are, solid_are, twins_are, rows_are}
 use Rattle.newick_noted.proofs.Many.{is_many, PlacedH, placed_all, many_found, many_none, column_at, rows_of}
 
@@ -106,8 +106,8 @@ module _ (n : ℕ) (two : 2 ≤ n) (few : n ≤ 64) (text : List ℕ) where
     leaves_asc : Ascending 1 (1 + size f) (strays n [] (leaves_of f))
     leaves_asc = strays_up n 1 (1 + size f) [] (leaves_of f) (leaves_up 1 f)
 
-    stray_is : r.met.stray ≡ head_or 0 (strays n [] (leaves_of f))
-    stray_is = ap (λ m. m.stray) k.met ∙ (met_all n few (leaves_of f) [] none_met (leaves_placed n few 1 (1 + size f) (leaves_of f) (omega arith) (leaves_up 1 f)) none_seen).1
+    stray_is : r.met.stray ≡ head (strays n [] (leaves_of f))
+    stray_is = ap (λ m. m.stray) k.met ∙ (met_all n few (leaves_of f) [] none_met none_seen).1
 
     missing_up : Ascending (1 + size f) (suc (semicolon_at f)) (missing n f)
     unfolding missing
@@ -120,19 +120,19 @@ module _ (n : ℕ) (two : 2 ≤ n) (few : n ≤ 64) (text : List ℕ) where
     both_up : Ascending 1 (suc (semicolon_at f)) (strays n [] (leaves_of f) ++ missing n f)
     both_up = asc_append 1 (1 + size f) (suc (semicolon_at f)) (strays n [] (leaves_of f)) (missing n f) leaves_asc missing_up
 
-    first_append : (xs ys : List ℕ) → (head_or 0 xs ≡ 0 → ⊥) → head_or 0 (xs ++ ys) ≡ head_or 0 xs
-    unfolding head_or
-    first_append [] ys h = absurd (h refl)
-    first_append (x ∷ xs) ys h = refl
+    first_append : (p : ℕ) (xs ys : List ℕ) → head xs ≡ Some p → head (xs ++ ys) ≡ Some p
+    unfolding head
+    first_append p [] ys e = absurd (let z : ◌≡◌ {A = ℕ} 0 1 = cc in omega arith)
+    first_append p (x ∷ xs) ys e = e
 
-    pub stray_reply : (r.met.stray ≡ 0 → ⊥) → refused_reply 20 r.met.stray ≡ read_newick n text
-    stray_reply h =
-        refused_is 20 r.met.stray (checks_are ∙ bad_first 20 (suc (semicolon_at f)) _ r.met.stray (strays n [] (leaves_of f) ++ missing n f) both_up
-        (stray_is ∙ sym (first_append (strays n [] (leaves_of f)) (missing n f) (λ z. h (stray_is ∙ z)))) h)
+    pub stray_reply : (p : ℕ) → r.met.stray ≡ Some p → refused_reply 20 p ≡ read_newick n text
+    stray_reply p e =
+        refused_is 20 p (checks_are ∙ bad_found 20 (suc (semicolon_at f)) _ p (strays n [] (leaves_of f) ++ missing n f) both_up
+        (first_append p (strays n [] (leaves_of f)) (missing n f) (sym stray_is ∙ e)))
 
-    module _ (none : r.met.stray ≡ 0) where
+    module _ (none : r.met.stray ≡ None) where
       no_strays : strays n [] (leaves_of f) ≡ []
-      no_strays = none_first (1 + size f) (strays n [] (leaves_of f)) leaves_asc (sym stray_is ∙ none)
+      no_strays = none_found (strays n [] (leaves_of f)) (sym stray_is ∙ none)
 
       pub good : Good n [] (taxa_of f)
       good = subst (Good n []) (taxa_leaves 1 f) (good_of n [] (leaves_of f) no_strays)
@@ -140,7 +140,7 @@ module _ (n : ℕ) (two : 2 ≤ n) (few : n ≤ 64) (text : List ℕ) where
       seen_is : r.met.seen ≡ met_group n (taxa_of f)
       seen_is =
           ap (λ m. m.seen) k.met
-          ∙ (met_all n few (leaves_of f) [] none_met (leaves_placed n few 1 (1 + size f) (leaves_of f) (omega arith) (leaves_up 1 f)) none_seen).0
+          ∙ (met_all n few (leaves_of f) [] none_met none_seen).0
           ∙ ap (λ (s : List ℕ). met_group n (turned s [])) (taxa_leaves 1 f)
           ∙ group_turned n [] (taxa_of f) good
           ∙ (let z : met_group n [] + total (taxa_of f) ≡ total (taxa_of f) = omega (arith, group_none n) in z)
@@ -195,13 +195,13 @@ module _ (n : ℕ) (two : 2 ≤ n) (few : n ≤ 64) (text : List ℕ) where
         unfolding R
         small = enough n f two good
 
-        table_is : r.table ≡ table_of (head_or 0 (places_of too_heavy (edges_of f))) (head_or 0 (places_of (is_bare n) (edges_of f))) R
+        table_is : r.table ≡ table_of (head (places_of too_heavy (edges_of f))) (head (places_of (is_bare n) (edges_of f))) R
         unfolding R
         table_is =
             k.table
             ∙ ap₂ enter_all (entries_are n (omega arith) few f 1 [] none_met none_seen good) no_table_law
-            ∙ enter_all_law (map (entry_of n) (edges_at 1 f)) 0 0 [] (edges_placed n 1 (1 + size f) (edges_at 1 f) (omega arith) (edges_up 1 f)) (omega (arith, enough n f two good))
-            ∙ ap₂ (λ (a b : List ℕ). table_of (head_or 0 a) (head_or 0 b) (add_all [] (solid (map (entry_of n) (edges_at 1 f))))) (heavies_are n (edges_at 1 f)) (bares_are n (edges_at 1 f))
+            ∙ enter_all_law (map (entry_of n) (edges_at 1 f)) None None [] (omega (arith, enough n f two good))
+            ∙ ap₂ (λ (a b : List ℕ). table_of (head a) (head b) (add_all [] (solid (map (entry_of n) (edges_at 1 f))))) (heavies_are n (edges_at 1 f)) (bares_are n (edges_at 1 f))
 
         kept_asc : Ascending 1 (1 + size f) (map (λ e. e.place) (edges_of f))
         kept_asc = kept_up 1 (1 + size f) (edges_at 1 f) (edges_up 1 f)
@@ -218,32 +218,32 @@ module _ (n : ℕ) (two : 2 ≤ n) (few : n ≤ 64) (text : List ℕ) where
         twin_up : Ascending 1 (suc (semicolon_at f)) (twins n [] (edges_of f))
         twin_up = wide (twins n [] (edges_of f)) (twins_up n 1 (1 + size f) [] (edges_of f) kept_asc)
 
-        heavy_is : r.table.heavy ≡ head_or 0 (places_of too_heavy (edges_of f))
+        heavy_is : r.table.heavy ≡ head (places_of too_heavy (edges_of f))
         heavy_is = ap (λ t. t.heavy) table_is
 
-        bare_is : r.table.bare ≡ head_or 0 (places_of (is_bare n) (edges_of f))
+        bare_is : r.table.bare ≡ head (places_of (is_bare n) (edges_of f))
         bare_is = ap (λ t. t.bare) table_is
 
         -- 14
-        pub heavy_reply : (r.table.heavy ≡ 0 → ⊥) → refused_reply 14 r.table.heavy ≡ read_newick n text
-        heavy_reply h =
-            refused_is 14 r.table.heavy (past20 ∙ bad_first 14 (suc (semicolon_at f)) (after14 n f) r.table.heavy (places_of too_heavy (edges_of f)) heavy_up heavy_is h)
+        pub heavy_reply : (p : ℕ) → r.table.heavy ≡ Some p → refused_reply 14 p ≡ read_newick n text
+        heavy_reply p e =
+            refused_is 14 p (past20 ∙ bad_found 14 (suc (semicolon_at f)) (after14 n f) p (places_of too_heavy (edges_of f)) heavy_up (sym heavy_is ∙ e))
 
-        module _ (light : r.table.heavy ≡ 0) where
+        module _ (light : r.table.heavy ≡ None) where
           no_heavy : places_of too_heavy (edges_of f) ≡ []
-          no_heavy = none_first (suc (semicolon_at f)) (places_of too_heavy (edges_of f)) heavy_up (sym heavy_is ∙ light)
+          no_heavy = none_found (places_of too_heavy (edges_of f)) (sym heavy_is ∙ light)
 
           past14 : outcome_of (text_checks n (parsed text)) ≡ outcome_of (after14 n f)
           past14 = past20 ∙ bad_passed 14 (suc (semicolon_at f)) (after14 n f) (places_of too_heavy (edges_of f)) no_heavy
 
           -- 12
-          pub bare_reply : (r.table.bare ≡ 0 → ⊥) → refused_reply 12 r.table.bare ≡ read_newick n text
-          bare_reply h =
-              refused_is 12 r.table.bare (past14 ∙ bad_first 12 (suc (semicolon_at f)) (after12 n f) r.table.bare (places_of (is_bare n) (edges_of f)) bare_up bare_is h)
+          pub bare_reply : (p : ℕ) → r.table.bare ≡ Some p → refused_reply 12 p ≡ read_newick n text
+          bare_reply p e =
+              refused_is 12 p (past14 ∙ bad_found 12 (suc (semicolon_at f)) (after12 n f) p (places_of (is_bare n) (edges_of f)) bare_up (sym bare_is ∙ e))
 
-          module _ (full : r.table.bare ≡ 0) where
+          module _ (full : r.table.bare ≡ None) where
             no_bare : places_of (is_bare n) (edges_of f) ≡ []
-            no_bare = none_first (suc (semicolon_at f)) (places_of (is_bare n) (edges_of f)) bare_up (sym bare_is ∙ full)
+            no_bare = none_found (places_of (is_bare n) (edges_of f)) (sym bare_is ∙ full)
 
             past12 : outcome_of (text_checks n (parsed text)) ≡ outcome_of (after12 n f)
             past12 = past14 ∙ bad_passed 12 (suc (semicolon_at f)) (after12 n f) (places_of (is_bare n) (edges_of f)) no_bare

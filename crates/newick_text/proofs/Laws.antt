@@ -1,6 +1,6 @@
 -- Laws of the automaton's steps, for the proofs of the code.
 use mathlib.Core.Path.{◌≡◌, refl, ap, sym, ◌∙◌}
-use mathlib.Core.Bool.{true, false}
+use mathlib.Core.Bool.{Bool, true, false, not, true≢false}
 use mathlib.Core.List.{List}
 use Prim.Native.Nat.{ℕ, zero, suc, ◌+◌, ◌-◌, ◌≤◌, ◌<◌}
 use native.Mathlib.Numerals.{sub-one}
@@ -8,10 +8,11 @@ use native.Mathlib.Decide.{dec_lt}
 use native.Mathlib.Omega.{arith}
 use lib.ListN.{length, drop, get_or, drop_of_length-le, get_or-eq_default}
 use lib.Seq.{drop-cons}
-use borrow.Author.Tests.{lt-ltb, le-ltb, ne_eqb}
-use Rattle.newick_text.specs.declared.Took.{Took}
-use Rattle.newick_text.specs.declared.Took.TheVariants.{Past, Bad}
-use Rattle.newick_text.specs.Automaton.{Use, taxon, weight, State, start, want, some, over, close, stop, end, move, bad, good, first, next, run, never, inside, Colon, ran, whole, place_of, law_move, law_stop, law_good}
+use lib.Dec.{eqb}
+use borrow.Author.Tests.{lt-ltb, le-ltb, eq-eqb, ne_eqb, eqb-true}
+use Rattle.std.specs.Prelude.{Option, Some, None, unwrap_or}
+use Rattle.std.specs.Option.{option_eq}
+use Rattle.newick_text.specs.Automaton.{Use, taxon, weight, State, start, want, some, over, close, stop, end, move, bad, good, first, next, run, never, inside, Colon, law_move, law_stop, law_good}
 use Rattle.statement.specs.Decimal.{digit}
 
 pub same_next : (t : List ℕ) (at : ℕ) (q q' : State) → next q (get_or t at 256) ≡ next q' (get_or t at 256) → run (drop at t) q ≡ run (drop at t) q'
@@ -32,6 +33,29 @@ some_over u d l c e = rw e
 
 pub some_some : (u : Use) (d l c : ℕ) → digit c ≡ true → next (some u d l) c ≡ move (some u d l)
 some_some u d l c e = rw e
+
+-- what a test of the byte at a place says of it
+pub is_byte : (o : Option ℕ) (b : ℕ) → option_eq eqb o (Some b) ≡ true → unwrap_or o 256 ≡ b
+is_byte (Some x) b e = eqb-true x b e
+is_byte None b e = absurd (true≢false (sym e))
+
+pub not_byte : (o : Option ℕ) (b : ℕ) → b < 256 → option_eq eqb o (Some b) ≡ false → unwrap_or o 256 ≡ b → ⊥
+not_byte (Some x) b h e q = true≢false (sym (eq-eqb x b q) ∙ e)
+not_byte None b h e q = omega arith
+
+pub no_other : (o : Option ℕ) (b : ℕ) → false ≡ not (option_eq eqb o (Some b)) → unwrap_or o 256 ≡ b
+no_other o b e = go (option_eq eqb o (Some b)) refl e
+  where
+    go : (y : Bool) → option_eq eqb o (Some b) ≡ y → false ≡ not y → unwrap_or o 256 ≡ b
+    go true p e = is_byte o b p
+    go false p e = absurd (true≢false (sym e))
+
+pub another : (o : Option ℕ) (b : ℕ) → b < 256 → true ≡ not (option_eq eqb o (Some b)) → unwrap_or o 256 ≡ b → ⊥
+another o b h e q = go (option_eq eqb o (Some b)) refl e
+  where
+    go : (y : Bool) → option_eq eqb o (Some b) ≡ y → true ≡ not y → ⊥
+    go true p e = true≢false e
+    go false p e = not_byte o b h p q
 
 -- the same with the byte that the code peeked at
 module _ (t : List ℕ) (at : ℕ) (q : State) (c : ℕ) (e : c ≡ get_or t at 256) where
@@ -59,8 +83,8 @@ module _ (t : List ℕ) (at : ℕ) (q : State) (c : ℕ) (e : c ≡ get_or t at 
 pub first_zero : (u : Use) (d l c : ℕ) → c ≡ 48 → first u d l c ≡ move (over u d l)
 first_zero u d l c e = rw e
 
-pub first_some : (u : Use) (d l c : ℕ) → (c ≡ 48 → ⊥) → 48 ≤ c → c < 58 → first u d l c ≡ move (some u d l)
-first_some u d l c f h k = rw (ne_eqb c 48 f, digit_yes c h k)
+pub first_some : (u : Use) (d l c : ℕ) → (c ≡ 48 → ⊥) → digit c ≡ true → first u d l c ≡ move (some u d l)
+first_some u d l c f e = rw (ne_eqb c 48 f, e)
 
 pub first_none : (u : Use) (d l c : ℕ) → (c ≡ 48 → ⊥) → digit c ≡ false → first u d l c ≡ stop
 first_none u d l c f e = rw (ne_eqb c 48 f, e)
@@ -103,17 +127,8 @@ module _ (t : List ℕ) (at c : ℕ) (e : c ≡ get_or t at 256) (q : State) (u 
   pub num_none : (c ≡ 48 → ⊥) → digit c ≡ false → run (drop at t) q ≡ bad (drop at t)
   num_none z i = fails t at q c e (at_byte ∙ first_none u d l c z i)
 
-  pub num_some : (c ≡ 48 → ⊥) → 48 ≤ c → c < 58 → run (drop at t) q ≡ run (drop (at + 1) t) (some u d l)
-  num_some z h k = goes t at q c e (at_byte ∙ first_some u d l c z h k)
-
-pub ran_bad : (t : List ℕ) (q q' : State) (k : Took) (p : ℕ) → k ≡ Bad p → ran t q k ≡ ran t q' k
-ran_bad t q q' k p e = rw e
-
-pub ran_past : (t : List ℕ) (q : State) (k : Took) (p : ℕ) → k ≡ Past p → ran t q k ≡ run (drop p t) q
-ran_past t q k p e = rw e
-
-pub place_past : (k : Took) (p : ℕ) → k ≡ Past p → place_of k ≡ p
-place_past k p e = rw e
+  pub num_some : (c ≡ 48 → ⊥) → digit c ≡ true → run (drop at t) q ≡ run (drop (at + 1) t) (some u d l)
+  num_some z i = goes t at q c e (at_byte ∙ first_some u d l c z i)
 
 pub want_full : (d l c : ℕ) → c ≡ 40 → l ≡ 0 → next (want taxon d l) c ≡ stop
 want_full d l c e z = rw (e, z)
@@ -137,6 +152,3 @@ stop_end l c e = rw e
 
 pub stop_not : (l c : ℕ) → (c ≡ 59 → ⊥) → next (close 0 l) c ≡ stop
 stop_not l c f = rw (ne_eqb c 59 f)
-
-pub ran_whole : (t : List ℕ) (q : State) (k : Took) (p : ℕ) → k ≡ Bad p → ran t q k ≡ whole t k
-ran_whole t q k p e = rw e

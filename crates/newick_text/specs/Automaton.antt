@@ -1,13 +1,11 @@
 -- NEWICK TEXT BYTE BY BYTE: which byte may come next, as an automaton. The recogniser's contracts speak of it; that it accepts exactly the sentences of the
 -- grammar is proved in proofs/Productions.antt, that it stops at the first bad byte in proofs/FirstBad.antt.
-use Rattle.std.specs.Prelude.{◌≡◌, refl, List, [], ◌∷◌, ℕ, zero, suc, ◌+◌, ◌≤◌, ◌<◌, cond, eqb, length, drop, get_or}
-use Rattle.std.proofs.Common.{sym, ◌∙◌, add-one, drop_of_length-le, arith}
+use Rattle.std.specs.Prelude.{◌≡◌, refl, List, [], ◌∷◌, ℕ, zero, suc, ◌+◌, ◌≤◌, ◌<◌, cond, eqb, length, drop, get_or, Result, Ok, Err}
+use Rattle.std.proofs.Common.{add-one, drop_of_length-le, arith}
 use Rattle.std.proofs.Math.ListN.{get_or-eq_default}
 use Rattle.std.proofs.Math.Decide.{dec_lt}
 use Rattle.std.proofs.Math.Seq.{drop-cons}
 use Rattle.statement.specs.Decimal.{digit}
-use Rattle.newick_text.specs.declared.Took.{Took}
-use Rattle.newick_text.specs.declared.Took.TheVariants.{Past, Bad}
 
 -- what a number is for
 pub data Use : Type 0 where
@@ -66,22 +64,22 @@ unfoldable pub run : List ℕ → State → Out
 run [] q = bad []
 run (c ∷ s) q = pick (next q c) (bad (c ∷ s)) (good s) (run s)
 
--- the outcome, where reading came to a place in state q, or stopped at a place
-abbrev pub ran : List ℕ → State → Took → Out
-ran t q (Past p) = run (drop p t) q
-ran t q (Bad p) = bad (drop p t)
+-- the outcome, where reading came to a place in state q (Ok), or stopped at a place (Err)
+abbrev pub ran : List ℕ → State → Result ℕ ℕ → Out
+ran t q (Ok p) = run (drop p t) q
+ran t q (Err p) = bad (drop p t)
 
 -- the outcome for a whole text
-abbrev pub whole : List ℕ → Took → Out
-whole t (Past p) = good (drop p t)
-whole t (Bad p) = bad (drop p t)
+abbrev pub whole : List ℕ → Result ℕ ℕ → Out
+whole t (Ok p) = good (drop p t)
+whole t (Err p) = bad (drop p t)
 
-abbrev pub place_of : Took → ℕ
-place_of (Past p) = p
-place_of (Bad p) = p
+abbrev pub place_of : Result ℕ ℕ → ℕ
+place_of (Ok p) = p
+place_of (Err p) = p
 
 -- the result is not before `at` and, where `at` is in the text, not past the text's end
-pub record Onward (t : List ℕ) (at : ℕ) (r : Took) : Type 0 where
+pub record Onward (t : List ℕ) (at : ℕ) (r : Result ℕ ℕ) : Type 0 where
   pub on : at ≤ place_of r
   pub within : at ≤ length t → place_of r ≤ length t
 
@@ -100,10 +98,6 @@ never (over taxon d l) = refl
 never (over weight d l) = refl
 never (close zero l) = refl
 never (close (suc d) l) = refl
-
-pub get_d_any : (l : List ℕ) (i a b : ℕ) → i < length l → get_or l i a ≡ get_or l i b
-get_d_any l i a b h =
-    let e : get_or l i a ∷ drop (suc i) l ≡ get_or l i b ∷ drop (suc i) l = sym (drop-cons l i a h) ∙ drop-cons l i b h in cc
 
 pub inside : (t : List ℕ) (at : ℕ) → get_or t at 256 < 256 → at < length t
 inside t at h = elim (dec_lt at (length t)) [ yes p ↦ p | no f ↦ absurd (let e : get_or t at 256 ≡ 256 = get_or-eq_default t 256 (omega arith) in omega arith) ]

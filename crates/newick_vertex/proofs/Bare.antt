@@ -2,6 +2,8 @@
 use Prim.Native.Nat.{ℕ, ◌+◌, ◌-◌, ◌≤◌, ◌<◌}
 use native.Mathlib.Omega.{arith}
 use mathlib.Core.Path.{◌≡◌, sym, ◌∙◌, ap}
+use mathlib.Core.Bool.{true, false, true≢false}
+use Rattle.std.specs.Prelude.{Option, Some, None, IfSome, is_some, unwrap_or}
 use mathlib.Core.List.{List, [], ◌∷◌}
 use lib.Dec.{eqb}
 use lib.ListN.{length, get_or}
@@ -25,6 +27,15 @@ module _ (xs : List ℕ) (x i e r : ℕ) (next : Next xs x i e r) where
 -- and where one stands at i already
 pub here_some : (xs : List ℕ) (x e r : ℕ) → r < e → get_or xs r 0 ≡ x → having xs x r e ≡ r ∷ having xs x (r + 1) e
 here_some xs x e r l h = those_take (λ j. eqb (get_or xs j 0) x) e r l (eq-eqb (get_or xs r 0) x h)
+
+-- a search that finds something, or nothing
+pub some_below : (o : Option ℕ) (e : ℕ) → IfSome o (λ j. j < e) → is_some o ≡ true → unwrap_or o e < e
+some_below (Some j) e h q = h
+some_below None e h q = absurd (true≢false (sym q))
+
+pub none_at : (o : Option ℕ) (e : ℕ) → is_some o ≡ false → e ≤ unwrap_or o e
+none_at (Some j) e q = absurd (true≢false q)
+none_at None e q = omega arith
 
 module _ (n m : ℕ) (ls hs : List ℕ) (v : ℕ) where
   abbrev t : Shape

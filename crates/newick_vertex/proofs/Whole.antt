@@ -10,9 +10,9 @@ use lib.Seq.{sets}
 use Rattle.statement.specs.Decimal.{decimal}
 use Rattle.statement.specs.NewickText.{Shape, homed, led, bracketed, leaf_text, child_text, items, vertex_text}
 use Rattle.newick_list.proofs.Vertex.{vertex_is}
-use Rattle.newick_vertex.specs.Arrays.{having, shape_in, Lone, Next, lead_at}
+use Rattle.newick_vertex.specs.Arrays.{having, shape_in, Lone, lead_at}
 use Rattle.newick_vertex.proofs.Bare.{having_all}
-use Rattle.newick_vertex.proofs.Stores.{Left, left_same, left_rest, rest_longer, text_byte}
+use Rattle.newick_vertex.proofs.Stores.{Left, left_rest, rest_longer, text_byte}
 
 -- a vertex's own taxa, and its children from c on, as items; the two without the closing bracket
 abbrev pub own : ℕ → List ℕ → ℕ → List (List ℕ)
@@ -45,16 +45,13 @@ module _ (n m : ℕ) (ls hs ws : List ℕ) (v : ℕ) (text : vertex_text (shape_
   own_length = omega (arith, opened_length, rest_longer [] 0 (own n hs v) (kids n m ls hs ws v 0))
 
   -- behind the taxa: what the children take, and the whole with its closing bracket
-  module _ (o o₁ : List ℕ) (at start b c : ℕ) (taxa : o₁ ≡ sets o at (led 40 (own n hs v))) (place : start ≡ at + length (led 40 (own n hs v)))
-      (first : b ≡ lead_at (eqb at start)) (next : Next ls v 0 v c) where
+  module _ (o o₁ : List ℕ) (at start b : ℕ) (taxa : o₁ ≡ sets o at (led 40 (own n hs v))) (place : start ≡ at + length (led 40 (own n hs v)))
+      (first : b ≡ lead_at (eqb at start)) where
     abbrev rest : List ℕ
-    rest = led b (kids n m ls hs ws v c)
+    rest = led b (kids n m ls hs ws v 0)
 
-    all_left : Left o at (opened n m ls hs ws v) o₁ start b (kids n m ls hs ws v c)
-    all_left =
-        left_same o at (opened n m ls hs ws v) o₁ start b (kids n m ls hs ws v 0) (kids n m ls hs ws v c)
-        (ap (map (child_text (shape_in n m ls hs ws) (vertex_text (shape_in n m ls hs ws)))) next.same)
-        (left_rest o at (own n hs v) (kids n m ls hs ws v 0) o₁ start b taxa place first)
+    all_left : Left o at (opened n m ls hs ws v) o₁ start b (kids n m ls hs ws v 0)
+    all_left = left_rest o at (own n hs v) (kids n m ls hs ws v 0) o₁ start b taxa place first
 
     pub rest_room : at + length (vertex_text (shape_in n m ls hs ws) v) ≤ 1000000 → start + length rest < 1000000
     rest_room h = omega (arith, all_left.place, opened_length)

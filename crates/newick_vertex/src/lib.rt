@@ -1,46 +1,38 @@
 // The Newick text of a vertex, from the arrays that hold its tree, written as far as there is room for it. Document 02, §2.
 #![tactic(auto)]
 
-ghost use Rattle.std.specs.Prelude.{◌≡◌, [], ◌∷◌, map, ◌+◌, ◌≤◌, eqb, length};
+ghost use Rattle.std.specs.Prelude.{◌≡◌, [], ◌∷◌, map, ◌+◌, ◌≤◌, ◌<◌, eqb, length, unwrap_or, IfSome};
 ghost use Rattle.std.proofs.lemmas.List.Edits.{sets};
 ghost use Rattle.statement.specs.Decimal.{decimal};
 ghost use Rattle.statement.specs.NewickText.{led, leaf_text, vertex_text};
 ghost use Rattle.newick_vertex.specs.Arrays.{having, Next, Lone, shape_in, lead_at};
 
-// The next place from one on, and before another, that holds a number; the end where there is none.
-fn next_with(xs: &[usize], x: usize, from: usize, to: usize) -> usize
-    requires { (from ≤ to) × (to ≤ length xs.now) }
-    ensures { Next xs.now x from to result }
-{
-    let mut j = from;
-    while j < to {
-        if xs[j] == x {
-            return j;
-        }
-        j += 1;
-    }
-    to
+use newick_digits::{put, put_number};
+
+// A tree by the arrays that hold it: the homes of its n taxa, and the links and weights of the m vertices below the root, which is vertex m.
+#[derive(Clone, Copy)]
+pub struct Arrays<'a> {
+    pub n: usize,
+    pub m: usize,
+    pub links: &'a [usize],
+    pub homes: &'a [usize],
+    pub weights: &'a [u32],
+    pub ghost taxa: { (n ≤ 64) × (n ≤ length homes.now) },
+    pub ghost edges: { (m ≤ 125) × (m ≤ length links.now) × (m ≤ length weights.now) },
 }
 
-// The taxon that stands for a vertex without brackets: the only one at home there, below the root and without children. Else n.
-fn lone(n: usize, m: usize, links: &[usize], homes: &[usize], v: usize) -> usize
-    requires { (v ≤ m) × (m ≤ length links.now) × (n ≤ length homes.now) × (n ≤ 64) }
-    ensures { Lone (shape_in n m links.now homes.now []) v result }
+// The next place from one on, and before another, that holds a number.
+fn next_with(xs: &[usize], x: usize, from: usize, to: usize) -> Option<usize>
+    requires { (from ≤ to) × (to ≤ length xs.now) }
+    ensures next { Next xs.now x from to (unwrap_or result to) }
+    ensures before { IfSome result (λ j. j < to) }
 {
-    if v == m {
-        return n;
+    for j in from..to {
+        if xs[j] == x {
+            return Some(j);
+        }
     }
-    if next_with(links, v, 0, v) < v {
-        return n;
-    }
-    let i = next_with(homes, v, 0, n);
-    if i == n {
-        return n;
-    }
-    if next_with(homes, v, i + 1, n) < n {
-        return n;
-    }
-    i
+    None
 }
 
 // A colon and a weight.
@@ -48,8 +40,8 @@ fn weigh(w: u32, out: &mut [u8], at: usize) -> usize
     requires { at + length (58 ∷ decimal w) ≤ 1000000 }
     ensures { (out.new ≡ sets out.old at (58 ∷ decimal w)) × (result ≡ at + length (58 ∷ decimal w)) }
 {
-    let p = newick_digits::put(out, at, 58);
-    newick_digits::put_number(out, p, w as u64)
+    let p = put(out, at, b':');
+    put_number(out, p, u64::from(w))
 }
 
 // A taxon as a leaf of length 0, behind a byte.
@@ -57,66 +49,73 @@ fn leaf(b: u8, taxon: usize, out: &mut [u8], at: usize) -> usize
     requires { at + length (b ∷ leaf_text taxon) ≤ 1000000 }
     ensures { (out.new ≡ sets out.old at (b ∷ leaf_text taxon)) × (result ≡ at + length (b ∷ leaf_text taxon)) }
 {
-    let p = newick_digits::put(out, at, b);
-    let q = newick_digits::put_number(out, p, taxon as u64);
+    let p = put(out, at, b);
+    let q = put_number(out, p, taxon as u64);
     weigh(0, out, q)
-}
-
-// The taxa at home at a vertex.
-fn taxa(n: usize, homes: &[usize], v: usize, out: &mut [u8], at: usize) -> usize
-    requires n_in_bounds { (n ≤ length homes.now) × (n ≤ 64) }
-    requires n_bound { at + length (led 40 (map leaf_text (having homes.now v 0 n))) ≤ 1000000 }
-    ensures out_after { out.new ≡ sets out.old at (led 40 (map leaf_text (having homes.now v 0 n))) }
-    ensures value { result ≡ at + length (led 40 (map leaf_text (having homes.now v 0 n))) }
-{
-    let mut p = at;
-    let mut b: u8 = 40;
-    let mut i = next_with(homes, v, 0, n);
-    while i < n {
-        p = leaf(b, i, out, p);
-        b = 44;
-        i = next_with(homes, v, i + 1, n);
-    }
-    p
 }
 
 // An opening bracket before the first item, and a comma before each other.
 fn leading(from: usize, at: usize) -> u8
     ensures { result ≡ lead_at (eqb from at) }
 {
-    if from == at { 40 } else { 44 }
+    if from == at { b'(' } else { b',' }
 }
 
-// A vertex without its weight; calls itself for its children, whose numbers are lower.
-pub fn vertex(
-    n: usize,
-    m: usize,
-    links: &[usize],
-    homes: &[usize],
-    weights: &[u32],
-    v: usize,
-    out: &mut [u8],
-    at: usize,
-) -> usize
-    requires v_le_m { (v ≤ m) × (m ≤ length links.now) × (m ≤ length weights.now) × (n ≤ length homes.now) × (n ≤ 64) × (m ≤ 125) }
-    requires v_bound { at + length (vertex_text (shape_in n m links.now homes.now weights.now) v) ≤ 1000000 }
-    ensures out_after { out.new ≡ sets out.old at (vertex_text (shape_in n m links.now homes.now weights.now) v) }
-    ensures value { result ≡ at + length (vertex_text (shape_in n m links.now homes.now weights.now) v) }
-{
-    let i = lone(n, m, links, homes, v);
-    if i < n {
-        return newick_digits::put_number(out, at, i as u64);
+impl<'a> Arrays<'a> {
+    // The taxon that stands for a vertex without brackets: the only one at home there, below the root and without children.
+    fn lone(&self, v: usize) -> Option<usize>
+        requires { v ≤ self.now.m }
+        ensures lone { Lone (shape_in self.now.n self.now.m self.now.links.now self.now.homes.now []) v (unwrap_or result self.now.n) }
+        ensures below { IfSome result (λ i. i < self.now.n) }
+    {
+        if v == self.m || next_with(self.links, v, 0, v).is_some() {
+            return None;
+        }
+        let i = next_with(self.homes, v, 0, self.n)?;
+        if next_with(self.homes, v, i + 1, self.n).is_some() {
+            return None;
+        }
+        Some(i)
     }
-    let start = taxa(n, homes, v, out, at);
-    let mut p = start;
-    let mut b = leading(at, start);
-    let mut c = next_with(links, v, 0, v);
-    while c < v {
-        let q = newick_digits::put(out, p, b);
-        let r = vertex(n, m, links, homes, weights, c, out, q);
-        p = weigh(weights[c], out, r);
-        b = 44;
-        c = next_with(links, v, c + 1, v);
+
+    // The taxa at home at a vertex.
+    fn taxa(&self, v: usize, out: &mut [u8], at: usize) -> usize
+        requires { at + length (led 40 (map leaf_text (having self.now.homes.now v 0 self.now.n))) ≤ 1000000 }
+        ensures out_after { out.new ≡ sets out.old at (led 40 (map leaf_text (having self.now.homes.now v 0 self.now.n))) }
+        ensures value { result ≡ at + length (led 40 (map leaf_text (having self.now.homes.now v 0 self.now.n))) }
+    {
+        let mut p = at;
+        let mut b = b'(';
+        for i in 0..self.n {
+            if self.homes[i] == v {
+                p = leaf(b, i, out, p);
+                b = b',';
+            }
+        }
+        p
     }
-    newick_digits::put(out, p, 41)
+
+    // A vertex without its weight; calls itself for its children, whose numbers are lower.
+    pub fn vertex(&self, v: usize, out: &mut [u8], at: usize) -> usize
+        requires v_le_m { v ≤ self.now.m }
+        requires v_bound { at + length (vertex_text (shape_in self.now.n self.now.m self.now.links.now self.now.homes.now self.now.weights.now) v) ≤ 1000000 }
+        ensures out_after { out.new ≡ sets out.old at (vertex_text (shape_in self.now.n self.now.m self.now.links.now self.now.homes.now self.now.weights.now) v) }
+        ensures value { result ≡ at + length (vertex_text (shape_in self.now.n self.now.m self.now.links.now self.now.homes.now self.now.weights.now) v) }
+    {
+        if let Some(i) = self.lone(v) {
+            return put_number(out, at, i as u64);
+        }
+        let start = self.taxa(v, out, at);
+        let mut p = start;
+        let mut b = leading(at, start);
+        for c in 0..v {
+            if self.links[c] == v {
+                let q = put(out, p, b);
+                let r = self.vertex(c, out, q);
+                p = weigh(self.weights[c], out, r);
+                b = b',';
+            }
+        }
+        put(out, p, b')')
+    }
 }

@@ -1,4 +1,5 @@
 -- The walk's steps, for the proofs of the code: what each stores, and where it comes to. Assumes nothing.
+use Rattle.std.specs.Prelude.{None}
 use mathlib.Core.Path.{◌≡◌, refl, ap, ap₂, ◌∙◌}
 use mathlib.Core.Logic.{◌⊎◌, inl, inr}
 use mathlib.Core.List.{List}
@@ -11,12 +12,11 @@ use lib.ListN.{length, drop, get_or, set, replicate, get_or-eq_default}
 use borrow.Author.Tests.{lt-ltb, le-ltb, eq-eqb, ne_eqb, le-leb, lt-leb}
 use Rattle.newick_edges.specs.declared.Met.{Met}
 use Rattle.newick_edges.specs.Marks.{meet, mask_of, side}
-use Rattle.newick_edges.specs.Table.{Table, enter}
+use Rattle.newick_edges.specs.Table.{Table, enter, no_table}
 use Rattle.statement.specs.Decimal.{digit, span}
-use Rattle.newick_text.proofs.Laws.{digit_yes, digit_low, digit_high}
 use Rattle.newick_walk.specs.Tokens.{Ready, Onward}
 use Rattle.newick_meaning.proofs.Numbers.{span_in, span_some}
-use Rattle.newick_walk.specs.Machine.{Walk, walk_in, start_spot, passing, opening, closing, leafing, weighing, begun, stops_at}
+use Rattle.newick_walk.specs.Machine.{Walk, passing, opening, closing, leafing, weighing, begun, stops_at}
 
 abbrev pub opened_at : Walk → Walk
 opened_at w = record { at = w.at + 1; depth = w.depth + 1; opened = set w.opened w.depth w.met.seen; below = w.below; met = w.met; table = w.table }
@@ -84,38 +84,31 @@ module _ (w : Walk) where
       ap (λ (t : Table). record { at = next; depth = w.depth; opened = w.opened; below = w.below; met = w.met; table = t })
       (q ∙ ap (λ (c : ℕ). enter w.table (w.at + 1) c x) p)
 
--- the walk starts from zeros
-pub begun_is : let z : List ℕ = replicate 125 0 in walk_in start_spot (replicate 131 0) z z z z ≡ begun
+-- the walk starts from nothing
+pub begun_is : (t : Table) → t ≡ no_table
+    → record { at = 0; depth = 0; opened = replicate 131 0; below = 0; met = record { seen = 0; stray = None }; table = t } ≡ begun
 unfolding begun
-begun_is = refl
+begun_is t e = ap (λ (t : Table). record { at = 0; depth = 0; opened = replicate 131 0; below = 0; met = record { seen = 0; stray = None }; table = t }) e
+
+pub begun_zero : (begun.at ≡ 0) × (begun.depth ≡ 0)
+unfolding begun
+begun_zero = (refl, refl)
 
 -- WHICH BYTES begin no token
-pub goes_at : (c : ℕ) → (c ≡ 40) ⊎ ((c ≡ 41) ⊎ (c ≡ 44)) → false ≡ stops_at c
+pub goes_at : (c : ℕ) → (c ≡ 40) ⊎ ((c ≡ 41) ⊎ ((c ≡ 44) ⊎ (c ≡ 58))) → stops_at c ≡ false
 unfolding stops_at
 goes_at c (inl e) = rw e
 goes_at c (inr (inl e)) = rw e
-goes_at c (inr (inr e)) = rw e
+goes_at c (inr (inr (inl e))) = rw e
+goes_at c (inr (inr (inr e))) = rw e
 
-pub stops_low : (c : ℕ) → (c ≡ 40 → ⊥) → (c ≡ 41 → ⊥) → (c ≡ 44 → ⊥) → c < 48 → true ≡ stops_at c
+pub goes_digit : (c : ℕ) → digit c ≡ true → stops_at c ≡ false
 unfolding stops_at
-stops_low c f g h l = rw (digit_low c l, ne_eqb c 40 f, ne_eqb c 41 g, ne_eqb c 44 h, ne_eqb c 58 (λ e. omega arith))
+goes_digit c e = rw e
 
-pub stops_high : (c : ℕ) → 48 ≤ c → ltb 58 c ≡ stops_at c
+pub stops_other : (c : ℕ) → digit c ≡ false → (c ≡ 40 → ⊥) → (c ≡ 41 → ⊥) → (c ≡ 44 → ⊥) → (c ≡ 58 → ⊥) → stops_at c ≡ true
 unfolding stops_at
-stops_high c l = go (dec_lt c 58) (dec_lt 58 c)
-  where
-    go : Dec (c < 58) → Dec (58 < c) → ltb 58 c ≡ stops_at c
-    go (yes h) d = rw (digit_yes c l h, le-ltb 58 c (let k : c ≤ 58 = omega arith in k))
-    go (no h) (no g) = let e : c ≡ 58 = omega arith in rw e
-    go (no h) (yes g) = rw (digit_high c (let k : 58 ≤ c = omega arith in k), lt-ltb 58 c g, ne_eqb c 40 (λ e. omega arith), ne_eqb c 41 (λ e. omega arith), ne_eqb c 44 (λ e. omega arith), ne_eqb c 58 (λ e. omega arith))
-
-pub digit_left : (c : ℕ) → stops_at c ≡ false → (c ≡ 40 → ⊥) → (c ≡ 41 → ⊥) → (c ≡ 44 → ⊥) → (c ≡ 58 → ⊥) → digit c ≡ true
-unfolding stops_at
-digit_left c s f g h k = go (digit c) refl
-  where
-    go : (b : Bool) → digit c ≡ b → b ≡ true
-    go true e = refl
-    go false e = absurd (true≢false (rw (e, ne_eqb c 40 f, ne_eqb c 41 g, ne_eqb c 44 h, ne_eqb c 58 k) at s))
+stops_other c e f g h k = rw (e, ne_eqb c 40 f, ne_eqb c 41 g, ne_eqb c 44 h, ne_eqb c 58 k)
 
 pub inside_of : (t : List ℕ) (at c : ℕ) → c ≡ get_or t at 256 → stops_at c ≡ false → at < length t
 unfolding stops_at

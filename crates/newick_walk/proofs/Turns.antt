@@ -2,16 +2,17 @@
 use mathlib.Core.Path.{◌≡◌, refl, ap, sym, ◌∙◌, subst}
 use mathlib.Core.Bool.{Bool, true, false, cond, true≢false}
 use mathlib.Core.List.{List, [], ◌∷◌}
-use Prim.Native.Nat.{ℕ, ◌+◌, min}
+use mathlib.Core.Logic.{inl, inr}
+use Prim.Native.Nat.{ℕ, ◌+◌, ◌≤◌, ◌<◌, min}
 use native.Mathlib.Omega.{arith}
-use lib.ListN.{drop, get_or}
+use lib.ListN.{length, drop, get_or}
 use Rattle.statement.specs.Decimal.{digit, on_from, span}
 use Rattle.statement.specs.Sentence.{Numeral, nought, lead, digits_text, numeral_text, width}
 use Rattle.numerals.specs.Numerals.{number_limit}
 use Rattle.newick_walk.specs.Machine.{Walk, passing, opening, closing, leafing, weighing, stops_at}
-use Rattle.newick_walk.specs.Tokens.{Token, opens, closes, comma, taxon, weight, bytes_of, NoTaxon, Sep, cut, step_by, play, Ahead, Turned, Walks}
+use Rattle.newick_walk.specs.Tokens.{Token, opens, closes, comma, taxon, weight, bytes_of, NoTaxon, Sep, cut, step_by, play, Ahead, Ready, Turned, Onward, Walks}
 use Rattle.newick_meaning.proofs.Numbers.{value_at, span_at, past_at, past_one, head_is}
-use Rattle.newick_walk.proofs.Steps.{opening_at, closing_at, leafing_at, weighing_at}
+use Rattle.newick_walk.proofs.Steps.{opening_at, closing_at, leafing_at, weighing_at, goes_at, goes_digit, inside_of, onward_open, onward_close, onward_pass, onward_weigh, onward_leaf}
 
 -- a byte that begins a token tells which
 abbrev kind_of : Token → ℕ
@@ -116,8 +117,11 @@ module _ (n : ℕ) (t : List ℕ) (w r : Walk) (c : ℕ) (byte : c ≡ get_or t 
 abbrev pub Going : ℕ → List ℕ → Walk → Walk → Type 0
 Going n t w₀ w = (ts : List Token) → Ahead t w₀.at ts → (us : List Token) × Ahead t w.at us × (play n ts w₀ ≡ play n us w)
 
-pub going_begun : (n : ℕ) (t : List ℕ) (w : Walk) → Going n t w w
+going_begun : (n : ℕ) (t : List ℕ) (w : Walk) → Going n t w w
 going_begun n t w ts a = (ts, a, refl)
+
+pub going_from : (n : ℕ) (t : List ℕ) (v w : Walk) → w ≡ v → Going n t v w
+going_from n t v w e = subst (λ (x : Walk). Going n t v x) (sym e) (going_begun n t v)
 
 -- a byte that begins no token
 stop_here : (c : ℕ) → stops_at c ≡ true → (k : Token) → class_of c ≡ kind_of k → ⊥
@@ -166,5 +170,33 @@ module _ (n : ℕ) (t : List ℕ) (w₀ w : Walk) (c : ℕ) (byte : c ≡ get_or
       go [] b e = sym (e ∙ play_end n w)
       go (k ∷ us) b e = absurd (stop_here c s k (kind n t w w c byte k us b))
 
-pub walks_from : (n : ℕ) (t : List ℕ) (w v r : Walk) → w ≡ v → Walks n t w r → Walks n t v r
-walks_from n t w v r e h = subst (λ (x : Walk). Walks n t x r) e h
+-- ONE TURN of the loop, by its byte
+pub record Stepped (n : ℕ) (t : List ℕ) (w₀ w r : Walk) : Type 0 where
+  pub going : Going n t w₀ r
+  pub on : w.at < r.at
+  pub shallow : r.depth ≤ r.at
+  pub within : r.at ≤ length t
+
+module _ (n : ℕ) (t : List ℕ) (w₀ w r : Walk) (c : ℕ) (few : n ≤ 64) (rows : w.table.rows ≤ 125) (byte : c ≡ get_or t w.at 256) (g : Going n t w₀ w) (deep : w.depth ≤ w.at) where
+  ready : stops_at c ≡ false → Ready n t w c
+  ready s = record { taxa = few; inside = inside_of t w.at c byte s; shallow = deep; few = rows; byte = byte; token = s }
+
+  stepped : stops_at c ≡ false → Turned n t w r → Onward t w r → Stepped n t w₀ w r
+  stepped s f o = record { going = going_on n t w₀ w c byte g r s f; on = o.on; shallow = o.shallow; within = o.within }
+
+  pub step_open : c ≡ 40 → r ≡ opening w → Stepped n t w₀ w r
+  step_open z e = let s = goes_at c (inl z) in stepped s (turned_open n t w r c byte z e) (onward_open n t w r c (ready s) e)
+
+  pub step_close : c ≡ 41 → r ≡ closing w → Stepped n t w₀ w r
+  step_close z e = let s = goes_at c (inr (inl z)) in stepped s (turned_close n t w r c byte z e) (onward_close n t w r c (ready s) e)
+
+  pub step_comma : c ≡ 44 → r ≡ passing w → Stepped n t w₀ w r
+  step_comma z e = let s = goes_at c (inr (inr (inl z))) in stepped s (turned_comma n t w r c byte z e) (onward_pass n t w r c (ready s) e)
+
+  pub step_weight : (v next : ℕ) → c ≡ 58 → v ≡ min (on_from 0 (drop (w.at + 1) t)) number_limit → next ≡ w.at + 1 + span (drop (w.at + 1) t) → r ≡ weighing n w v next → r.table.rows ≤ 125 → Stepped n t w₀ w r
+  step_weight v next z p q e f =
+      let s = goes_at c (inr (inr (inr z))) in stepped s (turned_weight n t w r c byte v next z p q e) (onward_weigh n t w r c (ready s) v next q e f)
+
+  pub step_leaf : (v next : ℕ) → digit c ≡ true → v ≡ min (on_from 0 (drop w.at t)) number_limit → next ≡ w.at + span (drop w.at t) → r ≡ leafing n w v next → Stepped n t w₀ w r
+  step_leaf v next z p q e =
+      let s = goes_digit c z in stepped s (turned_leaf n t w r c byte v next z p q e) (onward_leaf n t w r c (ready s) v next z q e)

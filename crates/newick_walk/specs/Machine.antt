@@ -1,10 +1,10 @@
 -- The walk over a sentence, a token at a time: what each token does. These are the code's own steps, on its numbers and arrays put together.
-use Rattle.std.specs.Prelude.{ℕ, ◌+◌, ◌-◌, Bool, cond, not, ◌||◌, List, ltb, leb, eqb, get_or, set, replicate}
+use Rattle.std.specs.Prelude.{ℕ, None, ◌+◌, ◌-◌, Bool, cond, not, ◌||◌, List, ltb, leb, eqb, get_or, set, replicate}
 use Rattle.statement.specs.Decimal.{digit}
 use Rattle.newick_edges.specs.declared.Met.{Met}
 use Rattle.newick_edges.specs.Marks.{meet, mask_of, side}
 use Rattle.newick_edges.specs.Table.{Table, table_in, enter, no_table}
-use Rattle.newick_walk.specs.declared.Spot.{Spot}
+use Rattle.newick_walk.specs.declared.Walk.{Walk as Walker}
 
 -- where the walk is, with the arrays: the taxa met before each open bracket, and the table
 pub record Walk : Type 0 where
@@ -15,19 +15,11 @@ pub record Walk : Type 0 where
   pub met : Met
   pub table : Table
 
-abbrev pub walk_in : Spot → List ℕ → List ℕ → List ℕ → List ℕ → List ℕ → Walk
-walk_in w os cs ws ps ms =
-    record { at = w.at; depth = w.depth; opened = os; below = w.below; met = w.met; table = table_in w.noted cs ws ps ms }
-
--- the numbers that a walk starts with
-abbrev pub start_spot : Spot
-start_spot =
-    record { at = 0; depth = 0; below = 0; met = record { seen = 0; stray = 0 }; noted = record { heavy = 0; bare = 0; rows = 0 } }
+abbrev pub walk_in : Walker → Walk
+walk_in w =
+    record { at = w.at; depth = w.depth; opened = w.opened; below = w.below; met = w.met; table = table_in w.table }
 
 -- one byte on
-abbrev pub past_one : Spot → Spot
-past_one w = record { at = w.at + 1; depth = w.depth; below = w.below; met = w.met; noted = w.noted }
-
 abbrev pub passing : Walk → Walk
 passing w = record { at = w.at + 1; depth = w.depth; opened = w.opened; below = w.below; met = w.met; table = w.table }
 
@@ -52,7 +44,7 @@ weighing n w x next =
     record { at = next; depth = w.depth; opened = w.opened; below = w.below; met = w.met; table = enter w.table (w.at + 1) (side n w.below) x }
 
 unfoldable pub begun : Walk
-begun = record { at = 0; depth = 0; opened = replicate 131 0; below = 0; met = record { seen = 0; stray = 0 }; table = no_table }
+begun = record { at = 0; depth = 0; opened = replicate 131 0; below = 0; met = record { seen = 0; stray = None }; table = no_table }
 
 -- a byte that begins no token
 unfoldable pub stops_at : ℕ → Bool

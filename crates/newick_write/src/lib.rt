@@ -1,115 +1,104 @@
 // The Newick text of a list with k = n, written into a lent slice of its exact length. Document 02, §2.
 #![tactic(auto)]
 
-ghost use Rattle.std.specs.Prelude.{◌≡◌, List, ℕ, ◌^◌, ◌<◌, ◌≤◌, get_or};
+ghost use Rattle.std.specs.Prelude.{◌≡◌, true, ℕ, ◌<◌, ◌≤◌, length, get_or, IfOk};
 ghost use Rattle.std.proofs.lemmas.List.Edits.{sets};
-ghost use Rattle.statement.specs.Rows.{Row, rows_of, WellFormed};
+ghost use Rattle.statement.specs.Rows.{rows_of, well_formed};
 ghost use Rattle.statement.specs.Matrix.{weight_limit};
-ghost use Rattle.statement.specs.Tree.{link_of, home_of};
-ghost use Rattle.tree_write.specs.Vertices.{ClustersOf};
 ghost use Rattle.newick_write.specs.Linked.{Linked};
 ghost use Rattle.statement.specs.NewickText.{newick_of, newick_length};
-ghost use Rattle.statement.specs.Calls.{measure_newick, newick_measured, write_newick, newick_written};
+ghost use Rattle.statement.specs.Calls.{measure_newick, write_newick, newick_written};
+ghost use Rattle.statement.specs.Replies.{said};
 
-use statement::{Outcome, Splits};
+use newick_vertex::Arrays;
+use splits_list::check_whole;
+use statement::{Reason, Refusal, Splits};
 
-// The links of m rows.
-fn links_of(n: usize, clusters: &[u64; 125], m: usize) -> [usize; 125]
-    requires { (m ≤ 125) × ((j : ℕ) → j < m → get_or clusters.now j 0 < 2 ^ n) }
-    ensures { (rows : List Row) → ClustersOf rows clusters.now m → (j : ℕ) → j < m → get_or result j 0 ≡ link_of n rows j }
+// What a rule gives for the numbers 0 to m - 1, and 0 behind them.
+fn filled<const N: usize, F: Fn(usize) -> usize>(m: usize, rule: F) -> [usize; N]
+    requires few { m ≤ N }
+    requires callable { (i : ℕ) → i < m → F.pre rule i }
+    ensures { (f : ℕ → ℕ) → ((i : ℕ) → i < m → (r : ℕ) → F.post rule i r → r ≡ f i) → (j : ℕ) → j < m → get_or result j 0 ≡ f j }
 {
-    let mut links = [0usize; 125];
-    let mut i: usize = 0;
-    while i < m {
-        links[i] = tree_write::link_of(n, clusters, m, i);
-        i += 1;
+    let mut numbers = [0; N];
+    for i in 0..m {
+        numbers[i] = rule(i);
     }
-    links
+    numbers
 }
 
-// The homes of n taxa.
-fn homes_of(n: usize, clusters: &[u64; 125], m: usize) -> [usize; 64]
-    requires { (m ≤ 125) × (n ≤ 64) }
-    ensures { (rows : List Row) → ClustersOf rows clusters.now m → (j : ℕ) → j < n → get_or result j 0 ≡ home_of rows j }
-{
-    let mut homes = [0usize; 64];
-    let mut i: usize = 0;
-    while i < n {
-        homes[i] = tree_write::home_of(clusters, m, i);
-        i += 1;
-    }
-    homes
-}
-
-// The links and the homes of a well-formed list.
-#[derive(Clone, Copy)]
-struct Arrays {
+// A well-formed list over all its n taxa, with the links and the homes of its tree.
+#[derive(Drop)]
+struct Tree<'a> {
+    n: usize,
+    list: &'a Splits,
     links: [usize; 125],
     homes: [usize; 64],
+    ghost few: { n ≤ 64 },
+    ghost sized: { length list.now.clusters ≡ 125 },
+    ghost well: { well_formed weight_limit n list.now ≡ true },
+    ghost whole: { list.now.taxa ≡ n },
+    ghost linked: { Linked n list.now links homes },
 }
 
-fn arrays_of(n: usize, s: Splits) -> Arrays
-    requires { (n ≤ 64) × WellFormed weight_limit n s × (s.taxa ≡ n) }
-    ensures { Linked n s result.links result.homes }
-{
-    let clusters = s.clusters;
-    let links = links_of(n, &clusters, s.rows);
-    let homes = homes_of(n, &clusters, s.rows);
-    Arrays { links, homes }
-}
-
-// The text of a well-formed list, from its links and homes, as far as there is room for it, and its length.
-fn put_text(n: usize, s: Splits, links: &[usize; 125], homes: &[usize; 64], out: &mut [u8]) -> usize
-    requires { (n ≤ 64) × WellFormed weight_limit n s × (s.taxa ≡ n) × Linked n s links.now homes.now }
-    ensures { (out.new ≡ sets out.old 0 (newick_of n (rows_of s))) × (result ≡ newick_length n (rows_of s)) }
-{
-    let m = s.rows;
-    let weights = s.weights;
-    let p = newick_vertex::vertex(n, m, links, homes, &weights, m, out, 0);
-    newick_digits::put(out, p, 59)
-}
-
-// Its length: nothing has room in one byte but the first.
-fn text_length(n: usize, s: Splits, links: &[usize; 125], homes: &[usize; 64]) -> usize
-    requires { (n ≤ 64) × WellFormed weight_limit n s × (s.taxa ≡ n) × Linked n s links.now homes.now }
-    ensures { result ≡ newick_length n (rows_of s) }
-{
-    let mut first = [0u8; 1];
-    put_text(n, s, links, homes, &mut first)
-}
-
-// The length of the text of a list with k = n: 1, 8, or the lent number set.
-pub fn newick_length(n: usize, s: Splits, length: &mut usize) -> Outcome
-    ensures value { result ≡ measure_newick n s }
-    ensures length_after { length.new ≡ newick_measured n s length.old }
-{
-    let refusal = splits_list::whole_refusal(n, s);
-    if refusal != 0 {
-        return Outcome::Refused(refusal, 0);
+impl<'a> Tree<'a> {
+    fn of(n: usize, list: &'a Splits) -> Tree<'a>
+        requires { (n ≤ 64) × (well_formed weight_limit n list.now ≡ true) × (list.now.taxa ≡ n) }
+        ensures { (result.n ≡ n) × (result.list.now ≡ list.now) }
+    {
+        let m = list.rows;
+        Tree {
+            n,
+            list,
+            links: filled(m, |i| tree_write::link_of(n, &list.clusters, m, i)),
+            homes: filled(n, |i| tree_write::home_of(&list.clusters, m, i)),
+        }
     }
-    let arrays = arrays_of(n, s);
-    let links = arrays.links;
-    let homes = arrays.homes;
-    *length = text_length(n, s, &links, &homes);
-    Outcome::Done
+
+    // Its text, as far as there is room for it, and its length.
+    fn put(&self, out: &mut [u8]) -> usize
+        ensures { (out.new ≡ sets out.old 0 (newick_of self.now.n (rows_of self.now.list.now))) × (result ≡ newick_length self.now.n (rows_of self.now.list.now)) }
+    {
+        let m = self.list.rows;
+        let arrays = Arrays {
+            n: self.n,
+            m,
+            links: &self.links,
+            homes: &self.homes,
+            weights: &self.list.weights,
+        };
+        let p = arrays.vertex(m, out, 0);
+        newick_digits::put(out, p, b';')
+    }
+
+    // The length of its text: nothing has room in one byte but the first.
+    fn length(&self) -> usize
+        ensures { result ≡ newick_length self.now.n (rows_of self.now.list.now) }
+    {
+        self.put(&mut [0])
+    }
+}
+
+// The length of the text of a list with k = n, or 1, 8.
+pub fn newick_length(n: usize, s: Splits) -> Result<usize, Refusal>
+    ensures said { said result ≡ measure_newick n s }
+    ensures ok { IfOk result (λ len. len ≡ newick_length n (rows_of s)) }
+{
+    check_whole(n, s)?;
+    Ok(Tree::of(n, &s).length())
 }
 
 // The text of a list with k = n: 1, 8, 7, or the slice filled.
-pub fn write_newick(n: usize, s: Splits, out: &mut [u8]) -> Outcome
-    ensures value { result ≡ write_newick n s out.old }
+pub fn write_newick(n: usize, s: Splits, out: &mut [u8]) -> Result<(), Refusal>
+    ensures value { said result ≡ write_newick n s out.old }
     ensures out_after { out.new ≡ newick_written n s out.old }
 {
-    let refusal = splits_list::whole_refusal(n, s);
-    if refusal != 0 {
-        return Outcome::Refused(refusal, 0);
-    }
-    let arrays = arrays_of(n, s);
-    let links = arrays.links;
-    let homes = arrays.homes;
-    let len = text_length(n, s, &links, &homes);
+    check_whole(n, s)?;
+    let tree = Tree::of(n, &s);
+    let len = tree.length();
     if out.len() != len {
-        return Outcome::Refused(7, 0);
+        return Err(Reason::Output.at(0));
     }
-    put_text(n, s, &links, &homes, out);
-    Outcome::Done
+    tree.put(out);
+    Ok(())
 }

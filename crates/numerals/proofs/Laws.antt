@@ -2,17 +2,17 @@
 use Prim.Native.Nat.{ℕ, zero, suc, ◌+◌, ◌*◌, ◌-◌, ◌≤◌, ◌<◌, min}
 use native.Mathlib.Omega.{arith}
 use native.Mathlib.Numerals.{add-one}
-use native.Mathlib.Decide.{dec_lt}
 use mathlib.Core.Logic.{◌⊎◌, inl, inr}
 use mathlib.Core.Path.{◌≡◌, refl, sym, ◌∙◌, ap}
-use mathlib.Core.Bool.{Bool, true, false, cond, not, ◌&&◌, true≢false}
+use mathlib.Core.Bool.{Bool, true, false, cond}
 use mathlib.Core.List.{List, [], ◌∷◌}
 use lib.Dec.{ltb, eqb}
-use borrow.Author.Tests.{ltb-true, ltb-false, lt-ltb, le-ltb, eq-eqb, ne_eqb}
+use borrow.Author.Tests.{ltb-false}
 use lib.ListN.{length, get_or, drop, get_or-map}
 use lib.Seq.{drop-cons, drop-nil}
 use Rattle.statement.specs.Decimal.{digit, on_from, span}
-use Rattle.numerals.specs.Numerals.{space, starts_at, number_at, starts_from, starts_in, numbers_in, number_limit, wrong_at}
+use Rattle.numerals.specs.Numerals.{starts_at, number_at, starts_from, starts_in, numbers_in, number_limit, wrong_at}
+use Rattle.numerals.specs.declared.Fault.TheVariants.{TooLarge}
 use Rattle.numerals.specs.declared.Place.{Place}
 use Rattle.numerals.specs.Place.{behind, place_of}
 
@@ -75,38 +75,6 @@ module _ (text : List ℕ) (i v : ℕ) where
   unfolding span
   span_none l = ap span (drop_all text i l)
 
--- THE STARTS from a place on
-abbrev pub starts_on : List ℕ → ℕ → List ℕ
-starts_on text p = starts_from text p (length text - p)
-
-pub starts_all : (text : List ℕ) → starts_on text 0 ≡ starts_in text
-starts_all text = let all : length text - 0 ≡ length text = omega arith in ap (starts_from text 0) all
-
-module _ (text : List ℕ) (p : ℕ) where
-  starts_step : (m : ℕ) (t : Bool) → starts_at text p ≡ t
-      → starts_from text p (suc m) ≡ cond t (p ∷ starts_from text (suc p) m) (starts_from text (suc p) m)
-  unfolding starts_from
-  starts_step m t e = ap (λ (t : Bool). cond t (p ∷ starts_from text (suc p) m) (starts_from text (suc p) m)) e
-
-  pub starts_on_law : (t : Bool) → p < length text → starts_at text p ≡ t → starts_on text p ≡ cond t (p ∷ starts_on text (p + 1)) (starts_on text (p + 1))
-  starts_on_law t l e =
-      let m = length text - (p + 1) in
-      let more : length text - p ≡ suc m = omega arith in
-      ap (starts_from text p) more ∙ starts_step m t e
-      ∙ ap (λ (q : ℕ). cond t (p ∷ starts_from text q m) (starts_from text q m)) (sym (add-one p))
-
-  pub starts_end : length text ≤ p → starts_on text p ≡ []
-  unfolding starts_from
-  starts_end l = let none : length text - p ≡ 0 = omega arith in ap (starts_from text p) none
-
--- a digit is no less than '0'
-pub digit_from : (b : ℕ) → digit b ≡ true → 48 ≤ b
-digit_from b e = go (ltb 47 b) refl e
-  where
-    go : (t : Bool) → ltb 47 b ≡ t → t && ltb b 58 ≡ true → 48 ≤ b
-    go true h e = ltb-true 47 b h
-    go false h e = absurd (true≢false (sym e))
-
 -- THE PLACE of byte i, which a loop up to p has reached; as many lines, and as many columns, as bytes at most
 pub record Passed (text : List ℕ) (p i : ℕ) (here : Place) : Type 0 where
   pub within : i ≤ p
@@ -140,30 +108,6 @@ passed_on {text} {p} {i} {here} {next} k l m e =
       place = e ∙ ap (λ (h : Place). behind h (get_or text i 0)) k.place ∙ ap (place_of text) (sym (add-one i));
     }
 
--- what stands in a list with one element in front
-pub first_of : (xs : List ℕ) (x : ℕ) (rest : List ℕ) (k d : ℕ) → xs ≡ x ∷ rest → k ≡ 0 → x ≡ get_or xs k d
-first_of xs x rest k d e z = rw (e, z)
-
-pub later_of : (xs : List ℕ) (x : ℕ) (rest : List ℕ) (k d : ℕ) → xs ≡ x ∷ rest → (k ≡ 0 → ⊥) → get_or rest (k - 1) d ≡ get_or xs k d
-later_of xs x rest zero d e z = absurd (z refl)
-later_of xs x rest (suc k) d e z = let less : suc k - 1 ≡ k = omega arith in rw (e, less)
-
--- WHAT IS WRONG at a place, from what the tests said
-pub wrong_byte : (fault p : ℕ) (text : List ℕ) (b : ℕ) (d s : Bool) → fault ≡ 1 → b ≡ get_or text p 0 → d ≡ digit b → s ≡ space b
-    → wrong_at fault text p ≡ not d && not s
-wrong_byte fault p text b d s f e x y = rw (eq-eqb fault 1 f, ← e, ← x, ← y)
-
-pub wrong_number : (fault p : ℕ) (text : List ℕ) (s : Bool) (v : ℕ) → (fault ≡ 1 → ⊥) → s ≡ starts_at text p → v ≡ min (number_at text p) too_large
-    → wrong_at fault text p ≡ s && ltb number_limit v
-wrong_number fault p text s v f x y = rw (ne_eqb fault 1 f, ← x, above (number_at text p) ∙ ap (ltb number_limit) (sym y))
-  where
-    above : (w : ℕ) → ltb number_limit w ≡ ltb number_limit (min w too_large)
-    above w = go (dec_lt number_limit w)
-      where
-        go : Dec (number_limit < w) → ltb number_limit w ≡ ltb number_limit (min w too_large)
-        go (yes l) = lt-ltb number_limit w l ∙ sym (lt-ltb number_limit (min w too_large) (omega arith))
-        go (no l) = le-ltb number_limit w (omega arith) ∙ sym (le-ltb number_limit (min w too_large) (omega arith))
-
 -- NUMBER i, by the place where it starts; none is above the limit in a text without that fault
 pub number_is : (text : List ℕ) (i : ℕ) → get_or (numbers_in text) i 0 ≡ number_at text (get_or (starts_in text) i (length text))
 number_is text i =
@@ -189,7 +133,7 @@ starts_hold text p (suc m) i d = go (starts_at text p) refl i (λ k. later (star
     go true e (suc i) rest = rest i
     go false e i rest = rest i
 
-pub numbers_small : (text : List ℕ) → ((p : ℕ) → p < length text → wrong_at 2 text p ≡ false) → (i : ℕ) → get_or (numbers_in text) i 0 ≤ number_limit
+pub numbers_small : (text : List ℕ) → ((p : ℕ) → p < length text → wrong_at TooLarge text p ≡ false) → (i : ℕ) → get_or (numbers_in text) i 0 ≤ number_limit
 numbers_small text fine i = go (starts_hold text 0 (length text) i (length text))
   where
     go : Start text 0 (length text) (get_or (starts_in text) i (length text)) ⊎ (get_or (starts_in text) i (length text) ≡ length text) → get_or (numbers_in text) i 0 ≤ number_limit

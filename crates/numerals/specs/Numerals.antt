@@ -1,6 +1,8 @@
 -- WHOLE NUMBERS IN A TEXT, written in decimal with spaces between them: where each starts, its value, and which bytes do not belong.
 use Rattle.std.specs.Prelude.{ℕ, zero, suc, ◌-◌, Bool, cond, not, ◌&&◌, ◌||◌, List, [], ◌∷◌, map, ltb, eqb, length, get_or, drop}
 use Rattle.statement.specs.Decimal.{digit, on_from}
+use Rattle.numerals.specs.declared.Fault.{Fault}
+use Rattle.numerals.specs.declared.Fault.TheVariants.{Strange, TooLarge}
 
 -- what stands between numbers: space, tab, line end, carriage return
 abbrev pub space : ℕ → Bool
@@ -33,7 +35,7 @@ numbers_in text = map (number_at text) (starts_in text)
 abbrev pub number_limit : ℕ
 number_limit = 4294967295
 
--- WHAT CAN BE WRONG at a place: 1, a byte that is no digit and no space; 2, a number above the limit starts there
-abbrev pub wrong_at : ℕ → List ℕ → ℕ → Bool
-wrong_at fault text p =
-    cond (eqb fault 1) (not (digit_at text p) && not (space (get_or text p 0))) (starts_at text p && ltb number_limit (number_at text p))
+-- WHAT CAN BE WRONG at a place: a byte that is no digit and no space; a number above the limit starts there
+abbrev pub wrong_at : Fault → List ℕ → ℕ → Bool
+wrong_at Strange text p = not (digit_at text p) && not (space (get_or text p 0))
+wrong_at TooLarge text p = starts_at text p && ltb number_limit (number_at text p)

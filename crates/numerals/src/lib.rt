@@ -8,53 +8,64 @@ ghost use Rattle.statement.specs.Decimal.{digit, span};
 ghost use Rattle.numerals.specs.Numerals.{space, starts_at, number_at, starts_in, numbers_in, wrong_at};
 ghost use Rattle.numerals.specs.Place.{behind, place_of};
 
+use std::fmt;
+
+// The largest number that is read, and what stands for all above it.
+const LARGEST: u64 = 4294967295;
+
+const TOO_LARGE: u64 = 4294967296;
+
 // Line and column, both from 1.
-#[derive(Clone, Copy)]
+#[derive(Clone, Copy, PartialEq, Eq, Debug)]
 pub struct Place {
     pub line: usize,
     pub column: usize,
 }
 
+impl fmt::Display for Place {
+    fn fmt<W: fmt::Write>(&self, f: &mut fmt::Formatter<W>) -> fmt::Result {
+        write!(f, "line {}, column {}", self.line, self.column)
+    }
+}
+
 // A number that was read, and the place behind it.
-#[derive(Clone, Copy)]
+#[derive(Clone, Copy, PartialEq, Eq, Debug)]
 pub struct Number {
     pub value: u64,
     pub behind: usize,
 }
 
+// What can be wrong at a place: a byte that is no digit and no space; a number above 4,294,967,295.
+#[derive(Clone, Copy, PartialEq, Eq, Debug)]
+pub enum Fault {
+    Strange,
+    TooLarge,
+}
+
 pub fn is_digit(b: u8) -> bool
     ensures { result ≡ digit b }
 {
-    b > 47 && b < 58
+    b.is_ascii_digit()
 }
 
 pub fn is_space(b: u8) -> bool
     ensures { result ≡ space b }
 {
-    b == 32 || (b == 9 || (b == 10 || b == 13))
+    matches!(b, b' ' | b'\t' | b'\n' | b'\r')
 }
 
 // The byte at a place; 0, which is no digit, behind the end.
 pub fn byte_at(text: &[u8], p: usize) -> u8
     ensures { result ≡ get_or text.now p 0 }
 {
-    if p < text.len() {
-        return text[p];
-    }
-    0
+    text.get(p).copied().unwrap_or(0)
 }
 
 // A number starts at a digit with no digit right before it.
 fn starts(text: &[u8], p: usize) -> bool
     ensures { result ≡ starts_at text.now p }
 {
-    if !is_digit(byte_at(text, p)) {
-        return false;
-    }
-    if p == 0 {
-        return true;
-    }
-    !is_digit(byte_at(text, p - 1))
+    is_digit(byte_at(text, p)) && (p == 0 || !is_digit(byte_at(text, p - 1)))
 }
 
 // A number with one digit more, but never above 4,294,967,296, which stands for all that are too large.
@@ -62,103 +73,64 @@ fn with_digit(v: u64, b: u8) -> u64
     requires { (digit b ≡ true) × (v ≤ 4294967296) }
     ensures { result ≡ min (10 * v + (b - 48)) 4294967296 }
 {
-    let grown = 10 * v + (b - 48) as u64;
-    if grown < 4294967296 {
-        return grown;
-    }
-    4294967296
+    (10 * v + u64::from(b - b'0')).min(TOO_LARGE)
 }
 
 // The number at a place, 4,294,967,296 where it is above 4,294,967,295, and the place behind its digits.
 pub fn read_number(text: &[u8], p: usize) -> Number
     ensures { (result.value ≡ min (number_at text.now p) 4294967296) × (result.behind ≡ p + span (drop p text.now)) }
 {
-    let mut v: u64 = 0;
-    let mut i = p;
-    while i < text.len() {
-        if !is_digit(text[i]) {
-            return Number {
-                value: v,
-                behind: i,
-            };
-        }
-        v = with_digit(v, text[i]);
-        i += 1;
+    let mut value: u64 = 0;
+    let mut behind = p;
+    while behind < text.len() && is_digit(text[behind]) {
+        value = with_digit(value, text[behind]);
+        behind += 1;
     }
-    Number {
-        value: v,
-        behind: i,
-    }
+    Number { value, behind }
 }
 
 // The number alone.
 pub fn number_at(text: &[u8], p: usize) -> u64
     ensures { result ≡ min (number_at text.now p) 4294967296 }
 {
-    let read = read_number(text, p);
-    read.value
+    read_number(text, p).value
 }
 
-// Whether this is wrong at the place p: 1, a byte that is no digit and no space; 2, a number above 4,294,967,295.
-fn wrong(fault: u8, text: &[u8], p: usize) -> bool
+// Whether this is wrong at the place p.
+fn wrong(fault: Fault, text: &[u8], p: usize) -> bool
     ensures { result ≡ wrong_at fault text.now p }
 {
-    if fault == 1 {
-        let b = byte_at(text, p);
-        return !is_digit(b) && !is_space(b);
+    match fault {
+        Fault::Strange => {
+            let b = byte_at(text, p);
+            !is_digit(b) && !is_space(b)
+        }
+        Fault::TooLarge => starts(text, p) && number_at(text, p) > LARGEST,
     }
-    starts(text, p) && number_at(text, p) > 4294967295
 }
 
 // The first place where this is wrong, else the end of the text.
-pub fn first_wrong(fault: u8, text: &[u8]) -> usize
+pub fn first_wrong(fault: Fault, text: &[u8]) -> usize
     ensures { result ≡ lowest (wrong_at fault text.now) (length text.now) }
 {
-    let mut p = 0;
-    while p < text.len() {
-        if wrong(fault, text, p) {
-            return p;
-        }
-        p += 1;
-    }
-    p
+    places::lowest(text.len(), |p| wrong(fault, text, p))
 }
 
 // How many numbers the text has.
 pub fn count(text: &[u8]) -> usize
     ensures { result ≡ length (starts_in text.now) }
 {
-    let mut found: usize = 0;
-    let mut p = 0;
-    while p < text.len() {
-        if !starts(text, p) {
-            p += 1;
-            continue;
-        }
-        found += 1;
-        p += 1;
-    }
-    found
+    (0..text.len()).filter(|p| starts(text, *p)).count()
 }
 
 // The place where number i starts, counted from 0; the end of the text where there are not so many.
 pub fn start_of(text: &[u8], i: usize) -> usize
     ensures { result ≡ get_or (starts_in text.now) i (length text.now) }
 {
-    let mut left = i;
-    let mut p = 0;
-    while p < text.len() {
-        if !starts(text, p) {
-            p += 1;
-            continue;
-        }
-        if left == 0 {
-            return p;
-        }
-        left -= 1;
-        p += 1;
-    }
-    p
+    (0..text.len())
+        .filter(|p| starts(text, *p))
+        .nth(i)
+        .unwrap_or(text.len())
 }
 
 // Number i, counted from 0: 0 where there are not so many, 4,294,967,296 where it is above 4,294,967,295.
@@ -173,15 +145,16 @@ fn next_place(here: Place, b: u8) -> Place
     requires { (here.line + 1 < 18446744073709551616) × (here.column + 1 < 18446744073709551616) }
     ensures { result ≡ behind here b }
 {
-    if b == 10 {
-        return Place {
+    if b == b'\n' {
+        Place {
             line: here.line + 1,
             column: 1,
-        };
-    }
-    Place {
-        line: here.line,
-        column: here.column + 1,
+        }
+    } else {
+        Place {
+            column: here.column + 1,
+            ..here
+        }
     }
 }
 
@@ -190,13 +163,8 @@ pub fn place_of(text: &[u8], p: usize) -> Place
     ensures { result ≡ place_of text.now (min p (length text.now)) }
 {
     let mut here = Place { line: 1, column: 1 };
-    let mut i: usize = 0;
-    while i < p {
-        if i >= text.len() {
-            return here;
-        }
-        here = next_place(here, text[i]);
-        i += 1;
+    for b in &text[..p.min(text.len())] {
+        here = next_place(here, *b);
     }
     here
 }

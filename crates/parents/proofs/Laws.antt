@@ -8,15 +8,15 @@ use mathlib.Core.Logic.{◌≢◌}
 use mathlib.Core.Bool.{Bool, true, false, cond}
 use mathlib.Core.List.{List, [], ◌∷◌, ◌++◌, append_assoc}
 use lib.Dec.{ltb, eqb}
-use lib.ListN.{length, drop, get_or, replicate, length-append}
+use lib.ListN.{length, drop, get_or, length-append}
 use lib.Pow.{pow_mono}
 use borrow.Author.Tests.{lt-ltb, le-ltb, eq-eqb, ne_eqb}
 use Rattle.statement.specs.declared.Splits.{Splits}
-use Rattle.statement.specs.Rows.{Row, row, list_in, rows_of, filled, list_of}
+use Rattle.statement.specs.Rows.{Row, row, rows_of, list_of}
 use Rattle.statement.specs.Growing.{put_in, with_singles, with_trivial}
 use Rattle.splits_list.specs.Pushed.{pushed, appended}
 use Rattle.splits_list.proofs.Laws.{Roomy, rows_at, rows_end, appended_append, appended_rows, appended_list}
-use Rattle.parents.specs.Merging.{first_of, trivial_at, Given, Below, Passed, Past, Put}
+use Rattle.parents.specs.Merging.{first_of, trivial_at, Below, Passed, Put}
 
 -- THE REST of a list pushed: what remains at row i
 pub record Copying (s into t : Splits) (from i : ℕ) : Type 0 where
@@ -111,9 +111,6 @@ unfolding Below
 put_behind c w [] ys h = refl
 put_behind c w (x ∷ xs) ys h = put_past c w x.cluster x.weight (xs ++ ys) h.0 ∙ ap (λ (rows : List Row). x ∷ rows) (put_behind c w xs ys h.1)
 
-pub given_roomy : (k olds : ℕ) (cs ws : List ℕ) → Given olds cs ws → Roomy (list_in k olds cs ws)
-given_roomy k olds cs ws g = record { clusters = g.clusters; weights = g.weights; rows = g.few }
-
 -- ROWS PASSED, whose clusters are below c
 module _ (old t : Splits) (c from : ℕ) where
   pub passed_none : from ≤ old.rows → Passed old t t c from from
@@ -146,9 +143,14 @@ module _ (old t : Splits) (c from : ℕ) where
           low = omega arith;
         })
 
+-- the next row, past one of the cluster c
+pub record Past (old : Splits) (c at to : ℕ) : Type 0 where
+  pub same : at < old.rows → get_or old.clusters at 0 ≡ c → to ≡ at + 1
+  pub other : (at < old.rows → get_or old.clusters at 0 ≡ c → ⊥) → to ≡ at
+
 -- ONE PUT IN where those below it are passed
 module _ (old t u : Splits) (c w from at to : ℕ) (room : Roomy old) (p : Passed old t u c from at) (stop : at < old.rows → c ≤ get_or old.clusters at 0)
-    (past : Past old.rows old.clusters c at to) where
+    (past : Past old c at to) where
   here : (row c w ∷ drop to (rows_of old) ≡ put_in (row c w) (drop at (rows_of old))) × (to ≤ old.rows)
   here = go (dec_lt at old.rows) (ℕ_discrete (get_or old.clusters at 0) c)
     where
@@ -301,7 +303,7 @@ trivial_up k i two f l = go (ℕ_discrete k 2) (ℕ_discrete (i + 1) k)
 -- THE MERGE at the trivial split numbered i
 pub record Merging (most k : ℕ) (old t : Splits) (at i : ℕ) : Type 0 where
   pub pre : List Row
-  pub is : t ≡ list_of 0 pre
+  pub is : t ≡ list_of k pre
   pub same : pre ++ drop at (rows_of old) ≡ filled_to most k (rows_of old) (i - first_of k)
   pub below : i ≤ k → Below (trivial_at k i) pre
   pub low : at ≤ old.rows
@@ -317,7 +319,7 @@ module _ (most k : ℕ) (two : 2 ≤ k) (old : Splits) (room : length (with_triv
         ap length (filled_all most k (rows_of old) two),
       )
 
-  pub merging_from : (t : Splits) (i : ℕ) → t ≡ list_of 0 [] → i ≡ first_of k → Merging most k old t 0 i
+  pub merging_from : (t : Splits) (i : ℕ) → t ≡ list_of k [] → i ≡ first_of k → Merging most k old t 0 i
   merging_from t i is e =
       record {
         pre = [];
@@ -361,7 +363,7 @@ module _ (most k : ℕ) (two : 2 ≤ k) (old : Splits) (room : length (with_triv
             pre = m.pre ++ p.pre;
             is =
                 p.is ∙ ap (λ (s : Splits). appended s p.pre) m.is
-                ∙ appended_list 0 m.pre p.pre
+                ∙ appended_list k m.pre p.pre
                 (omega (arith, size, ap length p.same, length-append p.pre (drop to (rows_of old))));
             same = parts ∙ next ∙ ap (filled_to most k (rows_of old)) (let q : suc (i - first_of k) ≡ i + 1 - first_of k = omega (arith, m.from) in q);
             below = λ h.
@@ -381,41 +383,13 @@ module _ (most k : ℕ) (two : 2 ≤ k) (old : Splits) (room : length (with_triv
           m.same ∙ ap (filled_to most k (rows_of old)) (let q : i - first_of k ≡ k + 1 - first_of k = omega (arith, m.to) in q)
           ∙ filled_all most k (rows_of old) two
 
-      rest_room : t.rows + length (drop at (rows_of old)) ≤ 125
+      pub rest_room : t.rows + length (drop at (rows_of old)) ≤ 125
       rest_room = omega (arith, rows_is, room, ap length whole, length-append m.pre (drop at (rows_of old)))
 
-      -- for k taxa
-      rest_is : (u : Splits) → u ≡ appended (list_in k t.rows t.clusters t.weights) (drop at (rows_of old)) → u ≡ list_of k (with_trivial most k (rows_of old))
-      unfolding list_of
+      pub rest_is : (u : Splits) → u ≡ appended t (drop at (rows_of old)) → u ≡ list_of k (with_trivial most k (rows_of old))
       rest_is u e =
-          e ∙ ap (λ (s : Splits). appended s (drop at (rows_of old))) (retaxed m.is)
+          e ∙ ap (λ (s : Splits). appended s (drop at (rows_of old))) m.is
           ∙ appended_list k m.pre (drop at (rows_of old)) (omega (arith, rows_is, rest_room)) ∙ ap (list_of k) whole
-        where
-          retaxed : t ≡ list_of 0 m.pre → list_in k t.rows t.clusters t.weights ≡ list_of k m.pre
-          retaxed q = ap (λ (s : Splits). list_in k s.rows s.clusters s.weights) q
-
--- columns of zeros
-pub blank : (k : ℕ) → list_in k 0 (replicate 125 0) (replicate 125 0) ≡ list_of k []
-unfolding list_of filled
-blank k = refl
-
--- THE END, for the list s itself
-abbrev pub columns : Splits → Splits
-columns s = list_in 0 s.rows s.clusters s.weights
-
-pub columns_room : (most : ℕ) (s : Splits) → length (with_trivial most s.taxa (rows_of s)) ≤ 125 → length (with_trivial most s.taxa (rows_of (columns s))) ≤ 125
-unfolding rows_of
-columns_room most s h = h
-
-module _ (most : ℕ) (s : Splits) (two : 2 ≤ s.taxa) (room : length (with_trivial most s.taxa (rows_of s)) ≤ 125) (t : Splits) (at i : ℕ)
-    (m : Merging most s.taxa (columns s) t at i) (l : s.taxa < i) where
-  pub last_room : t.rows + length (drop at (rows_of s)) ≤ 125
-  unfolding rows_of
-  last_room = rest_room most s.taxa two (columns s) room t at i m l
-
-  pub last_is : (u : Splits) → u ≡ appended (list_in s.taxa t.rows t.clusters t.weights) (drop at (rows_of s)) → u ≡ list_of s.taxa (with_trivial most s.taxa (rows_of s))
-  unfolding rows_of
-  last_is u e = rest_is most s.taxa two (columns s) room t at i m l u e
 
 -- one taxon has no trivial split
 pub none_filled : (most k : ℕ) (s t : Splits) → k < 2 → s.rows ≡ 0 → t ≡ list_of k [] → t ≡ list_of k (with_trivial most k (rows_of s))

@@ -1,5 +1,5 @@
 -- Trivial splits put in among the rows of a list, in one pass over both.
-use Rattle.std.specs.Prelude.{ℕ, ◌+◌, ◌-◌, ◌^◌, ◌≤◌, ◌<◌, ◌≡◌, cond, List, [], ◌∷◌, ◌++◌, eqb, length, get_or, drop}
+use Rattle.std.specs.Prelude.{ℕ, ◌+◌, ◌-◌, ◌^◌, ◌≤◌, ◌<◌, ◌≡◌, cond, List, [], ◌∷◌, ◌++◌, eqb, drop}
 use Rattle.statement.specs.declared.Splits.{Splits}
 use Rattle.statement.specs.Rows.{Row, row, rows_of}
 use Rattle.statement.specs.Growing.{put_in}
@@ -11,12 +11,6 @@ first_of k = cond (eqb k 2) 2 1
 
 abbrev pub trivial_at : ℕ → ℕ → ℕ
 trivial_at k i = cond (eqb i k) (2 ^ k - 2) (2 ^ i)
-
--- the columns of a list's rows
-pub record Given (olds : ℕ) (cs ws : List ℕ) : Type 0 where
-  pub few : olds ≤ 125
-  pub clusters : length cs ≡ 125
-  pub weights : length ws ≡ 125
 
 -- every cluster is below c
 unfoldable pub Below : ℕ → List Row → Type 0
@@ -30,11 +24,6 @@ pub record Passed (old t u : Splits) (c at to : ℕ) : Type 0 where
   pub same : pre ++ drop to (rows_of old) ≡ drop at (rows_of old)
   pub below : Below c pre
   pub low : to ≤ old.rows
-
--- the next row, past one of the cluster c
-pub record Past (olds : ℕ) (cs : List ℕ) (c at to : ℕ) : Type 0 where
-  pub same : at < olds → get_or cs at 0 ≡ c → to ≡ at + 1
-  pub other : (at < olds → get_or cs at 0 ≡ c → ⊥) → to ≡ at
 
 -- u is t with rows up to the cluster c pushed: with those of old from `to` on they are those from `at` on with the row c, w put in
 pub record Put (old t u : Splits) (c w at to : ℕ) : Type 0 where

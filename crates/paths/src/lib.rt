@@ -4,12 +4,14 @@
 
 ghost use Rattle.std.specs.Prelude.{◌≡◌, ℕ, ◌*◌, ◌<◌, ◌≤◌, length};
 ghost use Rattle.statement.specs.Matrix.{weight_limit};
-ghost use Rattle.statement.specs.Rows.{row, weights, Mem, list_in, rows_of, WellFormed};
+ghost use Rattle.statement.specs.Rows.{row, weights, Mem, rows_of, WellFormed};
 ghost use Rattle.statement.specs.Tree.{tree_of, path_sums};
 ghost use Rattle.statement.specs.Calls.{sum_paths, paths_written};
+ghost use Rattle.statement.specs.Replies.{said};
 ghost use Rattle.paths.specs.RowSum.{parting, row_sum};
 
-use statement::{Outcome, Splits};
+use splits_list::check_whole;
+use statement::{Reason, Refusal, Splits};
 
 // What a row adds to the path between taxa i and j: its weight, where its cluster holds exactly one of them.
 fn parting_weight(cluster: u64, weight: u32, i: usize, j: usize) -> u64
@@ -17,53 +19,44 @@ fn parting_weight(cluster: u64, weight: u32, i: usize, j: usize) -> u64
     ensures { result ≡ parting i j (row cluster weight) }
 {
     if (cluster >> i) % 2 == (cluster >> j) % 2 {
-        return 0;
+        0
+    } else {
+        u64::from(weight)
     }
-    weight as u64
 }
 
-// The path between taxa i and j: those of m rows that part them, summed.
-fn row_sum(m: usize, cs: &[u64; 125], ws: &[u32; 125], i: usize, j: usize) -> u64
-    requires i_bound { (i < 64) × (j < 64) × (m ≤ 125) × (length cs.now ≡ 125) × (length ws.now ≡ 125) }
-    requires by_index { (w : ℕ) → Mem w (weights (rows_of (list_in 0 m cs.now ws.now))) → w ≤ weight_limit }
-    ensures { result ≡ row_sum (rows_of (list_in 0 m cs.now ws.now)) i j }
+// The path between taxa i and j: the rows that part them, summed.
+fn row_sum(s: &Splits, i: usize, j: usize) -> u64
+    requires i_bound { (i < 64) × (j < 64) × (s.now.rows ≤ 125) }
+    requires by_index { (w : ℕ) → Mem w (weights (rows_of s.now)) → w ≤ weight_limit }
+    ensures { result ≡ row_sum (rows_of s.now) i j }
 {
     let mut sum: u64 = 0;
-    let mut k: usize = 0;
-    while k < m {
-        sum += parting_weight(cs[k], ws[k], i, j);
-        k += 1;
+    for k in 0..s.rows {
+        sum += parting_weight(s.clusters[k], s.weights[k], i, j);
     }
     sum
 }
 
 // The path sums of a well-formed list, in a slice of their number.
-fn put_sums(n: usize, s: Splits, out: &mut [u64])
-    requires { (2 ≤ n) × (n ≤ 64) × WellFormed weight_limit n s × (s.taxa ≡ n) × (length out.old ≡ n * n) }
-    ensures { out.new ≡ path_sums n (tree_of n (rows_of s)) }
+fn put_sums(n: usize, s: &Splits, out: &mut [u64])
+    requires { (2 ≤ n) × (n ≤ 64) × WellFormed weight_limit n s.now × (s.now.taxa ≡ n) × (length out.old ≡ n * n) }
+    ensures { out.new ≡ path_sums n (tree_of n (rows_of s.now)) }
 {
-    let m = s.rows;
-    let cs = s.clusters;
-    let ws = s.weights;
-    let mut e: usize = 0;
-    while e < n * n {
-        out[e] = row_sum(m, &cs, &ws, e / n, e % n);
-        e += 1;
+    for e in 0..n * n {
+        out[e] = row_sum(s, e / n, e % n);
     }
 }
 
 // The path sums of a list with k = n: 1, 8, 7, or the slice filled.
-pub fn sum_paths(n: usize, s: Splits, out: &mut [u64]) -> Outcome
-    ensures value { result ≡ sum_paths n s out.old }
+pub fn sum_paths(n: usize, s: Splits, out: &mut [u64]) -> Result<(), Refusal>
+    ensures value { said result ≡ sum_paths n s out.old }
     ensures out_after { out.new ≡ paths_written n s out.old }
 {
-    let refusal = splits_list::whole_refusal(n, s);
-    if refusal != 0 {
-        return Outcome::Refused(refusal, 0);
-    }
+    check_whole(n, s)?;
     if out.len() != n * n {
-        return Outcome::Refused(7, 0);
+        return Err(Reason::Output.at(0));
     }
-    put_sums(n, s, out);
-    Outcome::Done
+    put_sums(n, &s, out);
+    Ok(())
 }

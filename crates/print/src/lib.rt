@@ -2,60 +2,70 @@
 // compared with stored output. Each ends early with the error of a write that failed.
 #![tactic(auto)]
 
-use statement::{Growth, Outcome, Splits};
-use std::io;
+use statement::{Ending, Grown, Refusal, Splits};
+use std::iter::{Take, Zip};
+use std::slice::Iter;
+use std::{fmt, io};
+
+// A byte as it is shown: the character where it can be, else its number.
+#[derive(Clone, Copy, PartialEq, Eq, Debug)]
+pub struct Shown(pub u8);
+
+impl fmt::Display for Shown {
+    fn fmt<W: fmt::Write>(&self, f: &mut fmt::Formatter<W>) -> fmt::Result {
+        let Shown(b) = *self;
+        if b.is_ascii_graphic() {
+            write!(f, "'{}'", char::from(b))
+        } else {
+            write!(f, "byte {b}")
+        }
+    }
+}
 
 pub fn say(rt: &impl Print, text: &[u8]) -> io::Result<()> {
     rt.write_all(text)
 }
 
-pub fn number(rt: &impl Print, n: u64) -> io::Result<()> {
-    print!(rt; "{n}")
+// The rows in use: cluster and weight.
+pub fn rows_of(list: &Splits) -> Take<Zip<Iter<'_, u64>, Iter<'_, u32>>> {
+    list.clusters
+        .iter()
+        .zip(list.weights.iter())
+        .take(list.rows)
 }
 
-// One row: cluster, weight.
-fn row(rt: &impl Print, list: Splits, i: usize) -> io::Result<()> {
-    if i < 125 {
-        number(rt, list.clusters[i])?;
-        say(rt, b" ")?;
-        number(rt, list.weights[i] as u64)?;
-        say(rt, b"\n")?;
-    }
-    Ok(())
-}
-
-pub fn rows(rt: &impl Print, list: Splits) -> io::Result<()> {
-    for i in 0..125 {
-        if i < list.rows {
-            row(rt, list, i)?;
-        }
+// A line for each row.
+pub fn rows(rt: &impl Print, list: &Splits) -> io::Result<()> {
+    for (cluster, weight) in rows_of(list) {
+        println!(rt; "{cluster} {weight}")?;
     }
     Ok(())
 }
 
 // A refusal: its number and its place.
-pub fn refusal(rt: &impl Print, no: u8, place: usize) -> io::Result<()> {
-    say(rt, b"refused ")?;
-    number(rt, no as u64)?;
-    say(rt, b" at ")?;
-    number(rt, place as u64)?;
-    say(rt, b"\n")
+pub fn refusal(rt: &impl Print, refusal: Refusal) -> io::Result<()> {
+    println!(rt; "{refusal}")
 }
 
 // What a run gives: taxa and trials, then a row each; or the refusal and nothing else.
-pub fn growth(rt: &impl Print, g: Growth) -> io::Result<()> {
-    let o = g.outcome;
-    let list = g.list;
-    match o {
-        Outcome::Done => {
-            say(rt, b"taxa ")?;
-            number(rt, list.taxa as u64)?;
-            say(rt, b" trials ")?;
-            number(rt, g.trials)?;
-            say(rt, b"\n")?;
-            rows(rt, list)
+pub fn growth(rt: &impl Print, grown: Result<Grown, Refusal>) -> io::Result<()> {
+    match grown {
+        Ok(
+            Grown {
+                ending: Ending::Done,
+                list,
+                trials,
+            },
+        ) => {
+            println!(rt; "taxa {} trials {trials}", list.taxa)?;
+            rows(rt, &list)
         }
-        Outcome::Short => say(rt, b"short\n"),
-        Outcome::Refused(no, place) => refusal(rt, no, place),
+        Ok(
+            Grown {
+                ending: Ending::Short,
+                ..
+            },
+        ) => println!(rt; "short"),
+        Err(refused) => refusal(rt, refused),
     }
 }

@@ -1,3 +1,4 @@
 -- The root of the specs.
 pub mod Taken
 pub mod Stretch
+pub mod Held

@@ -1,48 +1,30 @@
-// Finding a record at the start of a stretch of bytes: its refusal number, and its body as part of the caller's own bytes.
+// Finding a record at the start of a stretch of bytes: why it is refused, or its kind, its n and its body as part of the caller's own bytes.
 // Document 01, "Records in a file" and "Refusal numbers".
 #![tactic(auto)]
 
-ghost use Rattle.std.specs.Prelude.{◌≡◌, ◌+◌, ◌*◌, ◌%◌, ◌^◌, ◌<◌, ◌≤◌, length, ◌==◌};
+ghost use Rattle.std.specs.Prelude.{◌≡◌, ◌+◌, ◌^◌, ◌<◌, ◌≤◌, true, length, ◌==◌, IfOk};
 ghost use Rattle.statement.specs.Bytes.{word_sum};
-ghost use Rattle.statement.specs.Refusals.{number_of, outcome_of};
+ghost use Rattle.statement.specs.Refusals.{outcome_of};
 ghost use Rattle.statement.specs.Record.{kinds, is_kind, fits_kind, length_in, record_length, pad_in, taken_checks, body_in};
 ghost use Rattle.statement.specs.Calls.{find_record};
+ghost use Rattle.statement.specs.Said.{code_of_kind};
+ghost use Rattle.statement.specs.Replies.{said};
 ghost use Rattle.record_find.specs.Taken.{kinds_taken};
 ghost use Rattle.record_find.specs.Stretch.{body_start, body_length};
+ghost use Rattle.record_find.specs.Held.{Holds};
 
-use statement::Outcome;
-
-// The 16-bit word of a low and a high byte.
-fn word(low: u8, high: u8) -> u16
-    ensures { result ≡ low + 256 * high }
-{
-    low as u16 + 256 * (high as u16)
-}
-
-// One more word added to a sum, with wrapping.
-fn plus(sum: u16, word: u16) -> u16
-    ensures { result ≡ (sum + word) % 65536 }
-{
-    std::num::wrapping_add_u16(sum, word)
-}
+use statement::{Kind, Reason, Refusal};
 
 // All 16-bit words added with wrapping; a last odd byte is no word.
 pub fn word_sum(bytes: &[u8]) -> u16
     ensures { result ≡ word_sum bytes.now }
 {
     let mut sum: u16 = 0;
-    let mut i: usize = 0;
-    while i + 1 < bytes.len() {
-        sum = plus(sum, word(bytes[i], bytes[i + 1]));
-        i += 2;
+    for pair in bytes.chunks_exact(2) {
+        let word = u16::from_le_bytes([pair[0], pair[1]]);
+        sum = sum.wrapping_add(word);
     }
     sum
-}
-
-fn wide(byte: u8) -> usize
-    ensures { (result ≡ byte) × (result < 256) }
-{
-    byte as usize
 }
 
 // The body length, in four bytes of the header.
@@ -50,7 +32,7 @@ pub fn length_in(bytes: &[u8]) -> usize
     requires { 8 ≤ length bytes.now }
     ensures { (result ≡ length_in bytes.now) × (result < 2 ^ 32) }
 {
-    wide(bytes[4]) + 256 * wide(bytes[5]) + 65536 * wide(bytes[6]) + 16777216 * wide(bytes[7])
+    u32::from_le_bytes([bytes[4], bytes[5], bytes[6], bytes[7]]) as usize
 }
 
 // The length of a whole record with a body of this length.
@@ -69,37 +51,29 @@ pub struct Taken {
     pub trees: bool,
 }
 
-// Whether this kind is one of those taken.
-fn takes(taken: Taken, kind: u8) -> bool
-    ensures { result ≡ is_kind (kinds_taken taken) kind }
-{
-    if kind == 1 {
-        return taken.matrices;
+impl Taken {
+    // Whether this kind is one of those taken.
+    fn takes(self, kind: Kind) -> bool
+        ensures { result ≡ is_kind (kinds_taken self) (code_of_kind kind) }
+    {
+        match kind {
+            Kind::Matrix => self.matrices,
+            Kind::Table => self.tables,
+            Kind::Tree => self.trees,
+        }
     }
-    if kind == 2 {
-        return taken.tables;
-    }
-    if kind == 3 {
-        return taken.trees;
-    }
-    false
 }
 
 // Whether n taxa allow a body of this length in a record of this kind.
-pub fn length_fits(kind: u8, n: usize, len: usize) -> bool
+pub fn length_fits(kind: Kind, n: usize, len: usize) -> bool
     requires { (2 ≤ n) × (n ≤ 64) }
-    ensures { result ≡ fits_kind kinds kind n len }
+    ensures { result ≡ fits_kind kinds (code_of_kind kind) n len }
 {
-    if kind == 1 {
-        return len == 4 * (n * n);
+    match kind {
+        Kind::Matrix => len == 4 * (n * n),
+        Kind::Table => len == table::fours(n),
+        Kind::Tree => tree_check::tree_fits(n, len),
     }
-    if kind == 2 {
-        return len == table::fours(n);
-    }
-    if kind == 3 {
-        return tree_check::tree_fits(n, len);
-    }
-    false
 }
 
 // Whether the pad byte is zero, or there is none.
@@ -107,73 +81,63 @@ fn pad_is_zero(bytes: &[u8], len: usize) -> bool
     requires { (len ≡ length_in bytes.now) × (record_length len ≤ length bytes.now) }
     ensures { result ≡ (pad_in bytes.now == 0) }
 {
-    if len % 2 == 1 {
-        return bytes[8 + len] == 0;
-    }
-    true
+    len % 2 == 0 || bytes[8 + len] == 0
 }
 
-// Refusals of a record up to its sum word, in their order: 16 by the 8 bytes, 15, 17, 1, 2, 16 by the whole, 18.
-pub fn find_record(bytes: &[u8]) -> Outcome
-    ensures { result ≡ find_record bytes.now }
+// A record that is found. Its body lies in the caller's own bytes, and is as long as its kind and n say.
+#[derive(Clone, Copy)]
+pub struct Record<'a> {
+    pub kind: Kind,
+    pub taxa: usize,
+    pub body: &'a [u8],
+    ghost few: { (2 ≤ taxa) × (taxa ≤ 64) },
+    ghost fits: { fits_kind kinds (code_of_kind kind) taxa (length body.now) ≡ true },
+}
+
+// A record found, with the refusals up to its sum word, in their order: 16 by the 8 bytes, 15, 17, 1, 2, 16 by the whole, 18.
+pub fn find_record<'a>(bytes: &'a [u8]) -> Result<Record<'a>, Refusal>
+    ensures said { said result ≡ find_record bytes.now }
+    ensures ok { IfOk result (λ r. Holds bytes.entry r.kind r.taxa r.body) }
 {
     if bytes.len() < 8 {
-        return Outcome::Refused(16, 0);
+        return Err(Reason::Cut.at(0));
     }
     if bytes[0] != 0x53 || bytes[1] != 0x70 {
-        return Outcome::Refused(15, 0);
+        return Err(Reason::Mark.at(0));
     }
-    let kind = bytes[2];
-    let all = Taken {
-        matrices: true,
-        tables: true,
-        trees: true,
-    };
-    if !takes(all, kind) {
-        return Outcome::Refused(17, 0);
-    }
-    let n = wide(bytes[3]);
-    if n < 2 || n > 64 {
-        return Outcome::Refused(1, 0);
+    let kind = Kind::coded(bytes[2]).ok_or(Reason::Kind.at(0))?;
+    let taxa = usize::from(bytes[3]);
+    if taxa < 2 || taxa > 64 {
+        return Err(Reason::Taxa.at(0));
     }
     let len = length_in(bytes);
-    if !length_fits(kind, n, len) {
-        return Outcome::Refused(2, 0);
+    if !length_fits(kind, taxa, len) {
+        return Err(Reason::Length.at(0));
     }
     let whole = record_length(len);
     if bytes.len() < whole {
-        return Outcome::Refused(16, 0);
+        return Err(Reason::Cut.at(0));
     }
     if !pad_is_zero(bytes, len) || word_sum(&bytes[..whole]) != 0 {
-        return Outcome::Refused(18, 0);
+        return Err(Reason::Sum.at(0));
     }
-    Outcome::Done
-}
-
-// The number of an outcome, 0 where nothing is refused.
-pub fn number_of(said: Outcome) -> u8
-    ensures { result ≡ number_of said }
-{
-    match said {
-        Outcome::Done => 0,
-        Outcome::Short => 0,
-        Outcome::Refused(number, _) => number,
-    }
+    Ok(Record {
+        kind,
+        taxa,
+        body: &bytes[8..8 + len],
+    })
 }
 
 // The same for a call that takes only some kinds: 17, after 18, for a known kind that it doesn't take.
-pub fn find_taken(bytes: &[u8], taken: Taken) -> Outcome
-    ensures { result ≡ outcome_of (taken_checks (kinds_taken taken) bytes.now) }
+pub fn find_taken<'a>(bytes: &'a [u8], taken: Taken) -> Result<Record<'a>, Refusal>
+    ensures said { said result ≡ outcome_of (taken_checks (kinds_taken taken) bytes.now) }
+    ensures ok { IfOk result (λ r. Holds bytes.entry r.kind r.taxa r.body) }
 {
-    let said = find_record(bytes);
-    if number_of(said) != 0 {
-        return said;
+    let found = find_record(bytes)?;
+    if !taken.takes(found.kind) {
+        return Err(Reason::Kind.at(0));
     }
-    if takes(taken, bytes[2]) {
-        Outcome::Done
-    } else {
-        Outcome::Refused(17, 0)
-    }
+    Ok(found)
 }
 
 // The body, as that stretch of the caller's own bytes; a refused finding gives an empty stretch.
@@ -182,9 +146,8 @@ pub fn body_of<'a>(bytes: &'a [u8]) -> &'a [u8]
     ensures pointer { (result.ref_ptr.0 ≡ bytes.entry.ref_ptr.0) × (result.ref_ptr.1 ≡ bytes.entry.ref_ptr.1 + body_start bytes.now) }
     ensures length { length result.now ≡ body_length bytes.now }
 {
-    if number_of(find_record(bytes)) != 0 {
-        return &bytes[0..0];
+    match find_record(bytes) {
+        Ok(found) => found.body,
+        Err(_) => &bytes[..0],
     }
-    let end = 8 + length_in(bytes);
-    &bytes[8..end]
 }

@@ -2,4 +2,3 @@
 pub mod Stores
 pub mod RoundTrip
 pub mod Replies
-pub mod Entries

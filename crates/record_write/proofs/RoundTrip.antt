@@ -4,7 +4,7 @@ use native.Mathlib.Nat.{div-div-eq-div-mul}
 use mathlib.Core.Bool.{false≢true}
 use lib.Seq.{get_or_at}
 use borrow.Author.Tests.{eqb-false}
-use Rattle.statement.specs.declared.Outcome.TheVariants.{Done}
+use Rattle.statement.specs.Outcomes.{Done}
 use Rattle.statement.specs.Table.{choose}
 use Rattle.statement.specs.Bytes.{from_four, word_total, word_sum, tree_length}
 use Rattle.statement.specs.Refusals.{number_of, tree_fits}

@@ -1,99 +1,73 @@
 // A record, in plain words: what it is, how many taxa, whether it is accepted or why not, and for a tree its groups as taxon numbers.
 #![tactic(auto)]
 
-ghost use Rattle.std.specs.Prelude.{◌≤◌, length};
-
-use print::{number, say};
+use print::rows_of;
 use reasons::refused;
-use statement::{Outcome, Splits};
+use record_find::{Record, find_record};
+use record_write::check_matrix;
+use statement::{Kind, Refusal, Splits};
 use std::io;
+use table::Table;
+use tree_read::read_tree;
 
-fn verdict(rt: &impl Print, said: Outcome) -> io::Result<()> {
+// What a record of this kind is called.
+fn title(kind: Kind) -> &'static str {
+    match kind {
+        Kind::Matrix => "matrix",
+        Kind::Table => "table of fours",
+        Kind::Tree => "tree",
+    }
+}
+
+// Whether a body is accepted, or why not.
+fn verdict(rt: &impl Print, said: Result<(), Refusal>) -> io::Result<()> {
     match said {
-        Outcome::Done => say(rt, b"accepted\n"),
-        Outcome::Short => say(rt, b"short\n"),
-        Outcome::Refused(no, place) => refused(rt, no, place),
+        Ok(()) => println!(rt; "accepted"),
+        Err(refusal) => refused(rt, refusal),
     }
 }
 
-// The taxa of a group.
-fn taxa(rt: &impl Print, cluster: u64) -> io::Result<()> {
-    for i in 0..64usize {
-        if (cluster >> i) % 2 == 1 {
-            say(rt, b" ")?;
-            number(rt, i as u64)?;
+// The rows of a tree's list, a line for each: its group's taxa and its weight.
+fn groups(rt: &impl Print, list: &Splits) -> io::Result<()> {
+    for (cluster, weight) in rows_of(list) {
+        print!(rt; "group")?;
+        for i in (0..64u32).filter(|i| (cluster >> *i) & 1 == 1) {
+            print!(rt; " {i}")?;
         }
+        println!(rt; ", weight {weight}")?;
     }
     Ok(())
 }
 
-fn group(rt: &impl Print, list: Splits, i: usize) -> io::Result<()> {
-    if i < 125 {
-        say(rt, b"group")?;
-        taxa(rt, list.clusters[i])?;
-        say(rt, b", weight ")?;
-        number(rt, list.weights[i] as u64)?;
-        say(rt, b"\n")?;
-    }
-    Ok(())
-}
-
-fn groups(rt: &impl Print, list: Splits) -> io::Result<()> {
-    for i in 0..125 {
-        if i < list.rows {
-            group(rt, list, i)?;
+// A tree's body: accepted, with its groups, or why not.
+fn tree(rt: &impl Print, read: Result<Splits, Refusal>) -> io::Result<()> {
+    match read {
+        Ok(list) => {
+            verdict(rt, Ok(()))?;
+            groups(rt, &list)
         }
-    }
-    Ok(())
-}
-
-// What kind of record it is.
-fn kind_of(rt: &impl Print, kind: u8) -> io::Result<()> {
-    if kind == 1 {
-        say(rt, b"matrix of ")
-    } else if kind == 2 {
-        say(rt, b"table of fours of ")
-    } else {
-        say(rt, b"tree of ")
+        Err(refusal) => refused(rt, refusal),
     }
 }
 
-// What kind of record it is, of how many taxa.
-fn title(rt: &impl Print, kind: u8, n: usize) -> io::Result<()> {
-    kind_of(rt, kind)?;
-    number(rt, n as u64)?;
-    say(rt, b" taxa: ")
-}
-
-// A body of this kind: accepted or not, and a tree's groups.
-fn body(rt: &impl Print, kind: u8, n: usize, bytes: &[u8]) -> io::Result<()> {
-    if kind == 1 {
-        verdict(rt, record_write::check_matrix(n, bytes))
-    } else if kind == 2 {
-        verdict(rt, table::check(n, bytes))
-    } else {
-        let read = tree_read::read_tree(n, bytes);
-        let said = read.outcome;
-        verdict(rt, said)?;
-        groups(rt, read.list)
+// A record that was found: what kind it is, of how many taxa, and what its body is.
+fn found(rt: &impl Print, record: Record) -> io::Result<()> {
+    let n = record.taxa;
+    print!(rt; "{} of {n} taxa: ", title(record.kind))?;
+    match record.kind {
+        Kind::Matrix => verdict(rt, check_matrix(n, record.body)),
+        Kind::Table => verdict(rt, Table::read(n, record.body).map(|_| ())),
+        Kind::Tree => tree(rt, read_tree(n, record.body)),
     }
-}
-
-// A record that was found.
-fn found(rt: &impl Print, bytes: &[u8]) -> io::Result<()>
-    requires { 8 ≤ length bytes.now }
-{
-    let n = tree_body::vertex(bytes[3]);
-    title(rt, bytes[2], n)?;
-    body(rt, bytes[2], n, record_find::body_of(bytes))
 }
 
 // What the bytes begin with.
 pub fn describe(rt: &impl Print, bytes: &[u8]) -> io::Result<()> {
-    let said = record_find::find_record(bytes);
-    if record_find::number_of(said) != 0 {
-        say(rt, b"no record: ")?;
-        return verdict(rt, said);
+    match find_record(bytes) {
+        Ok(record) => found(rt, record),
+        Err(refusal) => {
+            print!(rt; "no record: ")?;
+            refused(rt, refusal)
+        }
     }
-    found(rt, bytes)
 }

@@ -4,12 +4,9 @@ use Prim.Native.Nat.{ℕ, ◌/◌, ◌%◌}
 use native.Mathlib.Omega.{arith}
 use mathlib.Core.Path.{◌≡◌, sym, ◌∙◌, ap}
 use Rattle.statement.specs.declared.Splits.{Splits}
-use Rattle.statement.specs.declared.Growth.{Growth}
-use Rattle.statement.specs.declared.Reading.{Reading}
-use Rattle.statement.specs.declared.Outcome.{Outcome}
-use Rattle.statement.specs.declared.Outcome.TheVariants.{Done, Short, Refused}
-use Rattle.statement.specs.declared.Step.{Step}
-use Rattle.statement.specs.declared.Step.TheVariants as step
+use Rattle.statement.specs.Outcomes.{Growth, Reading, Outcome, Done, Short, Refused}
+use Rattle.statement.specs.Steps.{Step}
+use Rattle.statement.specs.Steps as step
 use Rattle.statement.specs.Refusals.{place_of}
 use Rattle.statement.specs.Calls.{unless_refused}
 use Rattle.splitbox.specs.Face.{code_of, reply_of, Shares, HandedBack, ReadBack, Walked}

@@ -9,29 +9,24 @@ use mathlib.Core.List.{List, [], ◌∷◌, ◌++◌}
 use lib.Dec.{ltb, eqb}
 use lib.ListN.{length, take, drop, get_or, length-drop}
 use Rattle.statement.specs.declared.Splits.{Splits}
-use Rattle.statement.specs.declared.Growth.{Growth}
-use Rattle.statement.specs.declared.Outcome.{Outcome}
-use Rattle.statement.specs.declared.Outcome.TheVariants.{Done, Short, Refused}
+use Rattle.statement.specs.Outcomes.{Growth, Outcome, Done, Short, Refused}
 use Rattle.statement.specs.Matrix.{weight_limit}
 use Rattle.statement.specs.Table.{choose, table_weight}
 use Rattle.statement.specs.Rows.{rows_of}
 use Rattle.statement.specs.Tree.{root}
-use Rattle.statement.specs.Sentence.{Parsed, outside, sentence}
 use Rattle.statement.specs.NewickText.{newick_length}
 use Rattle.statement.specs.Bytes.{tree_in, from_bytes, tree_length}
-use Rattle.statement.specs.Refusals.{Check, outcome_of, Passed, Given, length_off, output_off, kind_off, byte_off, tree_fits, list_off, matrix_checks, table_checks, tree_checks, output_checks, list_checks, newick_checks, entry_checks, vertex_checks}
+use Rattle.statement.specs.Refusals.{Check, outcome_of, Passed, Given, length_off, output_off, kind_off, byte_off, tree_fits, list_off, matrix_checks, table_checks, tree_checks, output_checks, list_checks, entry_checks, vertex_checks}
 use Rattle.statement.specs.Record.{Kind, kinds, is_kind, fits_kind, body_checks, matrix_kind, table_kind, record_length, kind_in, taxa_in, record_checks, taken_checks, body_in, writing_checks}
 use Rattle.statement.specs.Calls.{unless_refused, refused_run, run_matrix, run_table, grow_matrix, grow_table, read_tree, write_tree, measure_newick, write_newick, sum_paths, find_record, write_record, run_record}
 use Rattle.statement.proofs.Tests.{both_is, less_is, not_is}
 use Rattle.statement.proofs.Accepted.{taxa_passed, length_passed}
 use Rattle.statement.proofs.Refused.{refused_exactly}
 use Rattle.record_write.proofs.RoundTrip.{tree_short, table_short, body_short}
-use Rattle.splitbox.specs.Face.{Shares, nearly}
+use Rattle.splitbox.specs.Face.{Shares}
 use Rattle.claims.specs.Demands.{ExactlyWhen}
 use Rattle.claims.proofs.Demand1.{run_matrix_law, run_table_law, grow_matrix_law, grow_table_law, read_tree_law, write_tree_law, sum_paths_law, find_record_law, write_record_law}
-use Rattle.newick_meaning.specs.Parse.{parsed, read_newick}
-use Rattle.newick_meaning.proofs.Parses.{text_parses}
-use Rattle.newick_claims.proofs.Replies.{read_newick_law, newick_length_law, write_newick_law}
+use Rattle.newick_claims.proofs.Replies.{newick_length_law, write_newick_law}
 
 -- a line with a small number that looks at few places, given that those before it are passed
 abbrev Line : Check → Type 0
@@ -155,29 +150,6 @@ reading_fits n body = shares_by _ (tree_checks n body) (read_tree_law n body).0 
 
 pub tree_fits_law : (n : ℕ) (s : Splits) (out : List ℕ) → Shares (write_tree n s out)
 tree_fits_law n s out = shares_by _ (output_checks n s (length out) (tree_length n s.rows)) (write_tree_law n s out).0 (few_output n s (length out) (tree_length n s.rows))
-
--- a text's numbers are as small; its places are said as far as they fit
-abbrev Numbered : List Check → Type 0
-Numbered [] = Unit {0}
-Numbered (c ∷ cs) = ((1 ≤ c.number) × (c.number < 254)) × Numbered cs
-
-given_number : (cs : List Check) (number place : ℕ) → Numbered cs → Given cs number place → (1 ≤ number) × (number < 254)
-given_number [] number place small given = absurd given
-given_number (c ∷ cs) number place small (inl fails) = let (low, high) = small.0 in (omega (arith, fails.named), omega (arith, fails.named))
-given_number (c ∷ cs) number place small (inr given) = given_number cs number place small.1 given.1
-
-near_by : (o : Outcome) (cs : List Check) → ExactlyWhen o cs → Numbered cs → Shares (nearly o)
-near_by Done cs exactly small = tt
-near_by Short cs exactly small = tt
-near_by (Refused number place) cs exactly small = let (low, high) = given_number cs number place small ((exactly number place).0 refl) in (low, high, omega arith)
-
-numbered : (n : ℕ) (p : Parsed) → Numbered (newick_checks n p)
-numbered n (outside k) = ((omega arith, omega arith), ((omega arith, omega arith), tt))
-numbered n (sentence f) =
-    ((omega arith, omega arith), ((omega arith, omega arith), ((omega arith, omega arith), ((omega arith, omega arith), ((omega arith, omega arith), tt)))))
-
-pub text_fits : (n : ℕ) (text : List ℕ) → Shares (nearly (read_newick n text).outcome)
-text_fits n text = near_by _ (newick_checks n (parsed text)) (read_newick_law n text (parsed text) (text_parses text)).0 (numbered n (parsed text))
 
 pub newick_length_fits : (n : ℕ) (s : Splits) → Shares (measure_newick n s)
 newick_length_fits n s = shares_by _ (list_checks n s) (newick_length_law n s) (line refl (omega arith), (λ p. (line refl (omega arith), (λ q. tt))))

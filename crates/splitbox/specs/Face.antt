@@ -1,12 +1,9 @@
 -- What crosses to C: an outcome as one number, and a list in four lent places. A refusal leaves every lent slice and number as it was.
 use Rattle.std.specs.Prelude.{ℕ, ◌+◌, ◌-◌, ◌*◌, ◌^◌, ◌≤◌, ◌<◌, min, ◌≡◌}
 use Rattle.statement.specs.declared.Splits.{Splits}
-use Rattle.statement.specs.declared.Growth.{Growth}
-use Rattle.statement.specs.declared.Reading.{Reading}
-use Rattle.statement.specs.declared.Outcome.{Outcome}
-use Rattle.statement.specs.declared.Outcome.TheVariants.{Done, Short, Refused}
-use Rattle.statement.specs.declared.Step.{Step}
-use Rattle.statement.specs.declared.Step.TheVariants as step
+use Rattle.statement.specs.Outcomes.{Growth, Reading, Outcome, Done, Short, Refused}
+use Rattle.statement.specs.Steps.{Step}
+use Rattle.statement.specs.Steps as step
 use Rattle.statement.specs.Refusals.{place_of}
 use Rattle.statement.specs.Calls.{unless_refused}
 

@@ -2,39 +2,37 @@
 // None asks anything of its input, and a refusal leaves every lent slice and number as it was.
 #![tactic(auto)]
 
-ghost use Rattle.std.specs.Prelude.{◌≡◌, true, false, []};
+ghost use Rattle.std.specs.Prelude.{◌≡◌, []};
+ghost use Rattle.statement.specs.declared.Splits.{Splits};
 ghost use Rattle.statement.specs.Rows.{list_in, list_of};
 ghost use Rattle.statement.specs.Refusals.{outcome_of};
 ghost use Rattle.statement.specs.Record.{taken_checks};
-ghost use Rattle.statement.specs.Calls.{unless_refused, run_matrix, run_table, grow_matrix, grow_table, write_tree, tree_written, read_tree, measure_newick, newick_measured, write_newick, newick_written, sum_paths, paths_written, find_record, write_record, record_written, step_at, run_record};
+ghost use Rattle.statement.specs.Calls.{run_matrix, run_table, grow_matrix, grow_table, write_tree, tree_written, read_tree, measure_newick, newick_measured, write_newick, newick_written, sum_paths, paths_written, find_record, write_record, record_written, step_at, run_record};
+ghost use Rattle.statement.specs.Replies.{said, reading_said, growth_said, refused_for};
 ghost use Rattle.record_find.specs.Taken.{kinds_taken};
 ghost use Rattle.record_find.specs.Stretch.{body_start, body_length};
 ghost use Rattle.newick_meaning.specs.Parse.{read_newick};
 ghost use Rattle.splitbox.specs.Face.{reply_of, Shares, HandedBack, GrownBack, ReadBack, nearly, TextBack, Walked};
 
 use record_find::Taken;
-use statement::{Growth, Outcome, Splits, Step};
+use statement::{Ending, Grown, Refusal, Splits};
 
-// An outcome as one number.
-fn reply(said: Outcome) -> u64
-    requires { Shares said }
-    ensures { result ≡ reply_of said }
+// A refusal as one number: its own in the low byte, its place above.
+fn code(refusal: Refusal) -> u64
+    requires { Shares (refused_for refusal) }
+    ensures { result ≡ reply_of (refused_for refusal) }
 {
-    match said {
-        Outcome::Done => 0,
-        Outcome::Short => 255,
-        Outcome::Refused(number, place) => number as u64 + 256 * (place as u64),
-    }
+    u64::from(refusal.reason.number()) + 256 * (refusal.place as u64)
 }
 
-// Whether it is a refusal.
-fn is_refused(said: Outcome) -> bool
-    ensures { result ≡ unless_refused said true false }
+// What a call says as one number.
+fn reply<T: Copy>(answer: Result<T, Refusal>) -> u64
+    requires { Shares (said answer) }
+    ensures { result ≡ reply_of (said answer) }
 {
-    match said {
-        Outcome::Done => false,
-        Outcome::Short => false,
-        Outcome::Refused(_, _) => true,
+    match answer {
+        Ok(_) => 0,
+        Err(refusal) => code(refusal),
     }
 }
 
@@ -42,32 +40,28 @@ fn is_refused(said: Outcome) -> bool
 fn given(taxa: usize, rows: usize, clusters: &[u64; 125], weights: &[u32; 125]) -> Splits
     ensures { result ≡ list_in taxa rows clusters.now weights.now }
 {
-    let cs = *clusters;
-    let ws = *weights;
     Splits {
         taxa,
         rows,
-        clusters: cs,
-        weights: ws,
+        clusters: *clusters,
+        weights: *weights,
     }
 }
 
 // A list into four lent places.
 fn put(
-    s: Splits,
+    s: &Splits,
     taxa: &mut usize,
     rows: &mut usize,
     clusters: &mut [u64; 125],
     weights: &mut [u32; 125],
 )
-    ensures { list_in taxa.new rows.new clusters.new weights.new ≡ s }
+    ensures { list_in taxa.new rows.new clusters.new weights.new ≡ s.now }
 {
-    let cs = s.clusters;
-    let ws = s.weights;
     *taxa = s.taxa;
     *rows = s.rows;
-    *clusters = cs;
-    *weights = ws;
+    *clusters = s.clusters;
+    *weights = s.weights;
 }
 
 // A list starts at k = 1 with no row.
@@ -80,31 +74,57 @@ pub extern "C" fn splitbox_start(
 )
     ensures { list_in taxa.new rows.new clusters.new weights.new ≡ list_of 1 [] }
 {
-    put(splits_list::empty(1), taxa, rows, clusters, weights);
+    put(&splits_list::empty(1), taxa, rows, clusters, weights);
 }
 
 // What a growth or a whole run gives, into the lent places; nothing where it is refused.
 fn hand_back(
-    g: Growth,
+    grown: Result<Grown, Refusal>,
     taxa: &mut usize,
     rows: &mut usize,
     clusters: &mut [u64; 125],
     weights: &mut [u32; 125],
     trials: &mut u64,
 ) -> u64
-    requires { Shares g.outcome }
-    ensures { HandedBack g result
+    requires { Shares (said grown) }
+    ensures { (given : Splits) → HandedBack (growth_said given grown) result
         (list_in taxa.old rows.old clusters.old weights.old)
         (list_in taxa.new rows.new clusters.new weights.new)
         trials.old trials.new }
 {
-    let said = g.outcome;
-    if is_refused(said) {
-        return reply(said);
+    match grown {
+        Ok(grown) => {
+            put(&grown.list, taxa, rows, clusters, weights);
+            *trials = grown.trials;
+            match grown.ending {
+                Ending::Done => 0,
+                Ending::Short => 255,
+            }
+        }
+        Err(refusal) => code(refusal),
     }
-    put(g.list, taxa, rows, clusters, weights);
-    *trials = g.trials;
-    reply(said)
+}
+
+// A list that was read, into the lent places; nothing where it is refused.
+fn take_in(
+    read: Result<Splits, Refusal>,
+    taxa: &mut usize,
+    rows: &mut usize,
+    clusters: &mut [u64; 125],
+    weights: &mut [u32; 125],
+) -> u64
+    requires { Shares (said read) }
+    ensures { ReadBack (reading_said read) result
+        (list_in taxa.old rows.old clusters.old weights.old)
+        (list_in taxa.new rows.new clusters.new weights.new) }
+{
+    match read {
+        Ok(list) => {
+            put(&list, taxa, rows, clusters, weights);
+            0
+        }
+        Err(refusal) => code(refusal),
+    }
 }
 
 // The whole run on a matrix.
@@ -271,16 +291,7 @@ pub extern "C" fn splitbox_read_tree(
         (list_in taxa.old rows.old clusters.old weights.old)
         (list_in taxa.new rows.new clusters.new weights.new) }
 {
-    let read = tree_read::read_tree(n, body);
-    let outcome = read.outcome;
-    let list = read.list;
-    let g = Growth {
-        outcome,
-        list,
-        trials: 0,
-    };
-    let mut unused: u64 = 0;
-    hand_back(g, taxa, rows, clusters, weights, &mut unused)
+    take_in(tree_read::read_tree(n, body), taxa, rows, clusters, weights)
 }
 
 // The length of the Newick text of a list with k = n.
@@ -297,7 +308,13 @@ pub extern "C" fn splitbox_newick_length(
     ensures length_after { length.new ≡ newick_measured n (list_in taxa rows clusters.now weights.now) length.old }
 {
     let s = given(taxa, rows, clusters, weights);
-    reply(newick_write::newick_length(n, s, length))
+    match newick_write::newick_length(n, s) {
+        Ok(long) => {
+            *length = long;
+            0
+        }
+        Err(refusal) => code(refusal),
+    }
 }
 
 // Its Newick text, into a lent slice.
@@ -317,20 +334,11 @@ pub extern "C" fn splitbox_write_newick(
     reply(newick_write::write_newick(n, s, out))
 }
 
-// A place that fits a reply.
-fn near(said: Outcome) -> Outcome
-    ensures { result ≡ nearly said }
+// The refusal at a place that fits a reply.
+fn near(refusal: Refusal) -> Refusal
+    ensures { refused_for result ≡ nearly (refused_for refusal) }
 {
-    match said {
-        Outcome::Done => said,
-        Outcome::Short => said,
-        Outcome::Refused(number, place) => {
-            if place < 281474976710655 {
-                return said;
-            }
-            Outcome::Refused(number, 281474976710655)
-        }
-    }
+    refusal.reason.at(refusal.place.min(281474976710655))
 }
 
 // A Newick text read.
@@ -347,17 +355,8 @@ pub extern "C" fn splitbox_read_newick(
         (list_in taxa.old rows.old clusters.old weights.old)
         (list_in taxa.new rows.new clusters.new weights.new) }
 {
-    let read = newick_read::read_newick(n, text);
-    let said = read.outcome;
-    let outcome = near(said);
-    let list = read.list;
-    let g = Growth {
-        outcome,
-        list,
-        trials: 0,
-    };
-    let mut unused: u64 = 0;
-    hand_back(g, taxa, rows, clusters, weights, &mut unused)
+    let read = newick_read::read_newick(n, text).map_err(near);
+    take_in(read, taxa, rows, clusters, weights)
 }
 
 // Path sums of a list with k = n, into a lent slice of n by n.
@@ -408,7 +407,7 @@ pub extern "C" fn splitbox_find_taken(
 pub extern "C" fn splitbox_body_start(bytes: &[u8]) -> usize
     ensures { result ≡ body_start bytes.now }
 {
-    if record_find::number_of(record_find::find_record(bytes)) == 0 {
+    if record_find::find_record(bytes).is_ok() {
         8
     } else {
         0
@@ -419,8 +418,7 @@ pub extern "C" fn splitbox_body_start(bytes: &[u8]) -> usize
 pub extern "C" fn splitbox_body_length(bytes: &[u8]) -> usize
     ensures { result ≡ body_length bytes.now }
 {
-    let body = record_find::body_of(bytes);
-    body.len()
+    record_find::body_of(bytes).len()
 }
 
 // A record written into a lent slice.
@@ -446,13 +444,13 @@ pub extern "C" fn splitbox_walk(
         length.old length.new }
 {
     match walker::step_at(file, *place) {
-        Step::End => 254,
-        Step::Found(at, len, next) => {
-            *place = next;
-            *start = at;
-            *length = len;
+        Ok(Some(found)) => {
+            *place = found.behind;
+            *start = found.start;
+            *length = found.length;
             0
         }
-        Step::Refused(number, _) => number as u64,
+        Ok(None) => 254,
+        Err(refusal) => u64::from(refusal.reason.number()),
     }
 }

@@ -1,12 +1,12 @@
--- What the tests of the code say, as facts: of a cluster and its taxa, of two clusters, of a row by itself, and of row i beside row j. Assumes nothing.
+-- What the tests of the code say, as facts: of a cluster and its taxa, of two clusters, and of a row, by itself and against those before it. Assumes nothing.
 use Prim.Native.Nat.{ℕ, ◌/◌, ◌^◌, ◌≤◌, ◌<◌}
 use native.Mathlib.Omega.{arith}
 use native.Mathlib.Decide.{dec_lt}
 use native.Mathlib.Nat.{div-eq_of_lt, div-lt_iff_lt-mul}
 use mathlib.Core.Path.{◌≡◌, refl, sym, ◌∙◌, ap}
-use mathlib.Core.Bool.{Bool, true, false, not, ◌||◌}
-use mathlib.Core.List.{List}
-use mathlib.Core.Logic.{◌≢◌}
+use mathlib.Core.Bool.{Bool, true, false, not, ◌&&◌, true≢false}
+use mathlib.Core.Logic.Iff
+use mathlib.Core.Logic.{◌≢◌, ◌↔◌}
 use lib.Bits.{bit_and}
 use lib.Dec.{ltb, eqb}
 use lib.ListN.{get_or}
@@ -15,11 +15,10 @@ use borrow.Author.Count.{below_more}
 use borrow.Author.Tests.{lt-ltb, le-ltb, eq-eqb, ne_eqb}
 use Rattle.statement.specs.declared.Splits.{Splits}
 use Rattle.statement.specs.Cluster.{Split}
-use Rattle.statement.specs.Lowest.{somewhere}
-use Rattle.statement.specs.Rows.{conflicts, fits, clashes, bad_row}
+use Rattle.statement.specs.Rows.{conflicts, fits, bad_row}
 use Rattle.statement.proofs.Mask.{conflict_mask}
-use Rattle.statement.proofs.Tests.{fails_is}
-use Rattle.statement.proofs.WellFormed.{conflicts_is, Fit, fit_is, Beside, beside_is, row_is}
+use Rattle.statement.proofs.Tests.{both_is}
+use Rattle.statement.proofs.WellFormed.{conflicts_is, Fit, fit_is, row_is}
 
 -- a cluster is within the first k taxa where a shift by k leaves nothing of it
 pub shifted : (k c : ℕ) → eqb (c / 2 ^ k) 0 ≡ ltb c (2 ^ k)
@@ -31,56 +30,39 @@ shifted k c = go (dec_lt c (2 ^ k))
         let more : c / 2 ^ k ≡ 0 → ⊥ = λ e. omega (arith, (div-lt_iff_lt-mul {k = 2 ^ k} {x = c} {y = 1} (pow_pos k)).0 (omega arith)) in
         ne_eqb (c / 2 ^ k) 0 more ∙ sym (le-ltb c (2 ^ k) (omega arith))
 
+-- two numbers differ; two tests of the same
+differ_is : (x y : ℕ) → (not (eqb x y) ≡ true) ↔ (x ≢ y)
+differ_is x y = (λ e h. true≢false (sym e ∙ ap not (eq-eqb x y h)), λ o. ap not (ne_eqb x y o))
+
+same_truth : {P : Type 0} {a b : Bool} → (a ≡ true) ↔ P → (b ≡ true) ↔ P → a ≡ b
+same_truth {b = b} f g = go _ b f g
+  where
+    go : {P : Type 0} (a b : Bool) → (a ≡ true) ↔ P → (b ≡ true) ↔ P → a ≡ b
+    go true b f g = sym (g.1 (f.0 refl))
+    go false true f g = f.1 (g.0 refl)
+    go false false f g = refl
+
 -- two splits conflict exactly where their common group is neither empty nor one of the two clusters
 module _ (k a b : ℕ) (pk : 0 < k) (sa : Split k a) (sb : Split k b) where
   abbrev Apart : Type 0
   Apart = (bit_and a b ≢ 0) × (bit_and a b ≢ a) × (bit_and a b ≢ b)
 
-  pub conflicts_not : (Apart → ⊥) → false ≡ conflicts k a b
-  conflicts_not f = sym ((fails_is (conflicts_is k a b)).1 (λ h. f ((conflict_mask k a b sa sb pk).0 h)))
-
-  pub conflicts_so : Apart → true ≡ conflicts k a b
-  conflicts_so h = sym ((conflicts_is k a b).1 ((conflict_mask k a b sa sb pk).1 h))
+  pub conflicts_law : conflicts k a b ≡ (not (eqb (bit_and a b) 0) && (not (eqb (bit_and a b) a) && not (eqb (bit_and a b) b)))
+  conflicts_law =
+      let mask : (conflicts k a b ≡ true) ↔ Apart = Iff.trans (conflicts_is k a b) (conflict_mask k a b sa sb pk) in
+      let tests = both_is (differ_is (bit_and a b) 0) (both_is (differ_is (bit_and a b) a) (differ_is (bit_and a b) b)) in
+      same_truth mask ((λ e. let (x, (y, z)) = tests.0 e in (x, y, z)), (λ h. tests.1 (h.0, (h.1, h.2))))
 
 -- a row by itself
 module _ (most k c w : ℕ) where
-  pub fit : Fit most k c w → true ≡ fits most k c w
-  unfolding fits
-  fit h = sym ((fit_is most k c w).1 h)
-
-  pub unfit : (Fit most k c w → ⊥) → false ≡ fits most k c w
-  unfolding fits
-  unfit f = sym ((fails_is (fit_is most k c w)).1 f)
-
   pub is_fit : fits most k c w ≡ true → Fit most k c w
   unfolding fits
   is_fit = (fit_is most k c w).0
 
--- row i beside row j
-module _ (k : ℕ) (cs : List ℕ) (i j : ℕ) where
-  pub beside : Beside k (get_or cs j 0) (get_or cs i 0) → clashes k cs i j ≡ false
-  unfolding clashes
-  beside = (beside_is k (get_or cs j 0) (get_or cs i 0)).1
-
-  pub not_beside : (Beside k (get_or cs j 0) (get_or cs i 0) → ⊥) → clashes k cs i j ≡ true
-  unfolding clashes
-  not_beside f = holds (clashes k cs i j) (λ e. f ((beside_is k (get_or cs j 0) (get_or cs i 0)).0 e))
-    where
-      holds : (b : Bool) → (b ≡ false → ⊥) → b ≡ true
-      holds true f = refl
-      holds false f = absurd (f refl)
-
--- row i is bad by itself, or else against the rows before it
+-- row i, where the rows before it are good
 module _ (most : ℕ) (s : Splits) (i : ℕ) where
   abbrev pub here : Bool
   here = fits most s.taxa (get_or s.clusters i 0) (get_or s.weights i 0)
-
-  abbrev pub against : Bool
-  against = somewhere (clashes s.taxa s.clusters i) i
-
-  pub bad_row_law : {b : Bool} → here ≡ b → bad_row most s i ≡ (not b || against)
-  unfolding bad_row fits clashes
-  bad_row_law e = ap (λ (b : Bool). not b || against) e
 
   -- where the rows before it are good, and it fits by itself, all are splits
   pub splits : ((j : ℕ) → j < i → bad_row most s j ≡ false) → here ≡ true → (j : ℕ) → j ≤ i → Split s.taxa (get_or s.clusters j 0)

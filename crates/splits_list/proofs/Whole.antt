@@ -1,25 +1,29 @@
 -- A CALL THAT TAKES n, A LIST WITH k = n AND A LENT OUTPUT SLICE: when n and the list are taken, and what the call says and leaves in the slice by that
 -- and the slice's length. Assumes nothing.
 use Prim.Native.Nat.{ℕ, ◌≤◌}
-use native.Mathlib.Omega.{arith}
 use mathlib.Core.Path.{◌≡◌, refl, sym, ◌∙◌, ap, subst}
-use mathlib.Core.Logic.{◌≢◌}
-use mathlib.Core.Bool.{Bool, true, false, cond, ◌&&◌, ◌||◌}
-use mathlib.Core.List.{List}
+use mathlib.Core.Logic.Iff
+use mathlib.Core.Logic.{◌≢◌, ◌↔◌}
+use mathlib.Core.Bool.{Bool, true, false, cond, not, ◌&&◌, ◌||◌}
+use mathlib.Core.List.{List, [], ◌∷◌}
 use lib.Dec.{ltb, eqb}
 use lib.ListN.{length}
 use Rattle.statement.specs.declared.Splits.{Splits}
-use Rattle.statement.specs.declared.Outcome.{Outcome}
-use Rattle.statement.specs.declared.Outcome.TheVariants.{Done, Refused}
+use Rattle.statement.specs.Outcomes.{Outcome, Done, Refused}
+use Rattle.statement.specs.declared.Refusal.{Refusal}
+use Rattle.statement.specs.Lowest.{lowest_from}
 use Rattle.statement.specs.Matrix.{weight_limit}
 use Rattle.statement.specs.Rows.{rows_of, well_formed, WellFormed}
-use Rattle.statement.specs.Refusals.{outcome_of, output_checks}
+use Rattle.statement.specs.Refusals.{number_of, outcome_of, single, Passed, whole_list_off, output_off, list_checks, output_checks}
 use Rattle.statement.specs.Calls.{unless_refused}
-use Rattle.statement.proofs.Tests.{not_less_is, same_is, both_is, neither_is}
+use Rattle.statement.specs.Replies.{refused_for}
+use Rattle.statement.proofs.Refused.{accepted_exactly, append_checks}
+use Rattle.statement.proofs.Accepted.{single_passed, taxa_passed}
+use Rattle.statement.proofs.Tests.{same_is, both_is, not_is}
 use Rattle.statement.proofs.Enlarged.{WellRows}
 use Rattle.statement.proofs.Allowance.{well_rows}
 use Rattle.statement.proofs.WellFormed.{well_formed_is}
-use Rattle.statement.proofs.Outputs.{taxa_refused, list_refused, size_refused, output_accepted}
+use Rattle.statement.proofs.Outputs.{size_refused, output_accepted}
 use Rattle.splits_list.specs.Whole.{whole_refusal}
 
 -- TAKEN: n from 2 to 64, and a well-formed list with k = n
@@ -29,28 +33,36 @@ pub record Taken (n : ℕ) (s : Splits) : Type 0 where
   pub well : well_formed weight_limit n s ≡ true
   pub whole : s.taxa ≡ n
 
--- the number 0 says so; any other is the call's refusal, whatever its slice
-abbrev Way : ℕ → Splits → ℕ → ℕ → ℕ → Type 0
-Way n s len wanted number = (number ≡ 0 → Taken n s) × (number ≢ 0 → outcome_of (output_checks n s len wanted) ≡ Refused number 0)
-
-ways : (n : ℕ) (s : Splits) (len wanted : ℕ) → Way n s len wanted (whole_refusal n s)
-unfolding whole_refusal
-ways n s len wanted = go (ltb n 2 || ltb 64 n) refl (well_formed weight_limit n s && eqb s.taxa n) refl
+-- what the two checks say; their number is the definition's
+pub list_outcome : (n : ℕ) (s : Splits)
+    → outcome_of (list_checks n s) ≡ cond (ltb n 2 || ltb 64 n) (Refused 1 0) (cond (well_formed weight_limit n s && eqb s.taxa n) Done (Refused 8 0))
+unfolding outcome_of lowest_from
+list_outcome n s = go (ltb n 2 || ltb 64 n) (well_formed weight_limit n s && eqb s.taxa n)
   where
-    within : (ltb n 2 || ltb 64 n) ≡ false → (2 ≤ n) × (n ≤ 64)
-    within = (neither_is (not_less_is n 2) (not_less_is 64 n)).0
+    go : (a b : Bool) → outcome_of (single 1 a ∷ single 8 (not b) ∷ []) ≡ cond a (Refused 1 0) (cond b Done (Refused 8 0))
+    go true b = refl
+    go false true = refl
+    go false false = refl
 
-    go : (b : Bool) → (ltb n 2 || ltb 64 n) ≡ b → (t : Bool) → (well_formed weight_limit n s && eqb s.taxa n) ≡ t
-        → Way n s len wanted (cond b 1 (cond t 0 8))
-    go true p t q = (λ e. absurd (omega arith), λ o. taxa_refused n s len wanted p)
-    go false p true q =
-        let (two, few) = within p in
-        let (well, whole) = (both_is ((λ e. e), (λ e. e)) (same_is s.taxa n)).0 q in
-        (λ e. record { two = two; few = few; well = well; whole = whole }, λ o. absurd (o refl))
-    go false p false q = let (two, few) = within p in (λ e. absurd (omega arith), λ o. list_refused n s len wanted two few q)
+pub whole_number : (n : ℕ) (s : Splits) → whole_refusal n s ≡ number_of (outcome_of (list_checks n s))
+unfolding whole_refusal
+whole_number n s = go (ltb n 2 || ltb 64 n) (well_formed weight_limit n s && eqb s.taxa n) (list_outcome n s)
+  where
+    go : (a b : Bool) → outcome_of (list_checks n s) ≡ cond a (Refused 1 0) (cond b Done (Refused 8 0))
+        → cond a 1 (cond b 0 8) ≡ number_of (outcome_of (list_checks n s))
+    go true b e = sym (ap number_of e)
+    go false true e = sym (ap number_of e)
+    go false false e = sym (ap number_of e)
 
-pub taken : (n : ℕ) (s : Splits) → whole_refusal n s ≡ 0 → Taken n s
-taken n s = (ways n s 0 0).0
+pub taken : (n : ℕ) (s : Splits) → outcome_of (list_checks n s) ≡ Done → Taken n s
+taken n s e =
+    let (p1, (p8, u)) = (accepted_exactly (list_checks n s)).0 e in
+    let (two, few) = (taxa_passed n).0 p1 in
+    let (well, whole) = list_passed.0 p8 in
+    record { two = two; few = few; well = well; whole = whole }
+  where
+    list_passed : Passed (whole_list_off n s) ↔ ((well_formed weight_limit n s ≡ true) × (s.taxa ≡ n))
+    list_passed = Iff.trans (single_passed 8 (not (well_formed weight_limit n s && eqb s.taxa n))) (not_is (both_is ((λ e. e), (λ e. e)) (same_is s.taxa n)))
 
 -- the rows of a well-formed list with k = n; the list and the rows of a call that takes them
 pub whole_rows : (most n : ℕ) (s : Splits) → WellFormed most n s → s.taxa ≡ n → WellRows most n (rows_of s)
@@ -71,16 +83,19 @@ module _ (n : ℕ) (s : Splits) (out : List ℕ) (wanted : ℕ) (filled : List �
   abbrev Says : Outcome → List ℕ → Type 0
   Says r o = (r ≡ outcome) × (o ≡ unless_refused outcome out filled)
 
-  refused : (number : ℕ) → outcome ≡ Refused number 0 → Says (Refused number 0) out
-  refused number e = (sym e, rw e)
+  -- where the list is refused: the output has no say
+  pub list_off_law : (r : Refusal) → refused_for r ≡ outcome_of (list_checks n s) → Says (refused_for r) out
+  list_off_law r e =
+      let told : outcome ≡ refused_for r = append_checks (list_checks n s) (output_off (length out) wanted ∷ []) ∙ rw (← e) in
+      (sym told, rw told)
 
-  pub list_off_law : (number : ℕ) → number ≡ whole_refusal n s → number ≢ 0 → Says (Refused number 0) out
-  list_off_law number e o = refused number ((ways n s (length out) wanted).1 (λ z. o (e ∙ z)) ∙ ap (λ (k : ℕ). Refused k 0) (sym e))
+  pub size_off : outcome_of (list_checks n s) ≡ Done → length out ≢ wanted → Says (Refused 7 0) out
+  size_off z e =
+      let ok = taken n s z in
+      let told = size_refused n s (length out) wanted ok.two ok.few ok.well ok.whole e in
+      (sym told, rw told)
 
-  pub size_off : whole_refusal n s ≡ 0 → length out ≢ wanted → Says (Refused 7 0) out
-  size_off z e = let ok = taken n s z in refused 7 (size_refused n s (length out) wanted ok.two ok.few ok.well ok.whole e)
-
-  pub accepted : whole_refusal n s ≡ 0 → length out ≡ wanted → (o : List ℕ) → o ≡ filled → Says Done o
+  pub accepted : outcome_of (list_checks n s) ≡ Done → length out ≡ wanted → (o : List ℕ) → o ≡ filled → Says Done o
   accepted z size o e =
       let ok = taken n s z in
       let done = (output_accepted n s (length out) wanted).1 (record { two = ok.two; few = ok.few; well = ok.well; whole = ok.whole; size = size }) in

@@ -6,9 +6,11 @@ ghost use Rattle.std.specs.Prelude.{◌≡◌, [], ℕ, ◌*◌, ◌-◌, ◌^�
 ghost use Rattle.statement.specs.Cluster.{Split};
 ghost use Rattle.statement.specs.Lowest.{somewhere, nowhere};
 ghost use Rattle.statement.specs.Rows.{list_of, conflicts, fits, clashes, bad_row, well_formed};
-ghost use Rattle.splits_list.specs.Whole.{whole_refusal};
+ghost use Rattle.statement.specs.Refusals.{outcome_of, list_checks};
+ghost use Rattle.statement.specs.Replies.{said};
+ghost use Rattle.splits_list.specs.Pushed.{pushed};
 
-use statement::Splits;
+use statement::{Reason, Refusal, Splits};
 
 // The empty list, over k taxa: zeros throughout.
 pub fn empty(k: usize) -> Splits
@@ -27,10 +29,7 @@ fn row_limit(k: usize) -> usize
     requires { k ≤ 64 }
     ensures { result ≡ 2 * k - 3 }
 {
-    if k < 2 {
-        return 0;
-    }
-    2 * k - 3
+    (2 * k).saturating_sub(3)
 }
 
 // The cluster c is within the first k taxa, which every number of 64 bits is for k = 64.
@@ -38,10 +37,7 @@ fn within(k: usize, c: u64) -> bool
     requires { k ≤ 64 }
     ensures { result ≡ ltb c (2 ^ k) }
 {
-    if k < 64 {
-        return c >> k == 0;
-    }
-    true
+    k == 64 || c >> k == 0
 }
 
 // A row by itself: a non-empty cluster without taxon 0, within the first k taxa, and a weight from 1 to `most`.
@@ -49,22 +45,7 @@ fn row_fits(most: u32, k: usize, c: u64, w: u32) -> bool
     requires { k ≤ 64 }
     ensures { result ≡ fits most k c w }
 {
-    if c == 0 {
-        return false;
-    }
-    if !within(k, c) {
-        return false;
-    }
-    if c % 2 != 0 {
-        return false;
-    }
-    if w == 0 {
-        return false;
-    }
-    if most < w {
-        return false;
-    }
-    true
+    c != 0 && within(k, c) && c % 2 == 0 && w != 0 && w <= most
 }
 
 // Two splits conflict. Neither cluster has taxon 0, so one intersection of their groups is never empty; the other three are by one `and`.
@@ -72,16 +53,7 @@ fn conflict(a: u64, b: u64) -> bool
     ensures { (k : ℕ) → 0 < k → Split k a → Split k b → result ≡ conflicts k a b }
 {
     let both = a & b;
-    if both == 0 {
-        return false;
-    }
-    if both == a {
-        return false;
-    }
-    if both == b {
-        return false;
-    }
-    true
+    both != 0 && both != a && both != b
 }
 
 // Row i against the rows before it: one of them is not below it, or conflicts with it. All are splits of the first k taxa.
@@ -91,37 +63,20 @@ fn row_clashes(k: usize, clusters: &[u64; 125], i: usize) -> bool
     ensures { result ≡ somewhere (clashes k clusters.now i) i }
 {
     let c = clusters[i];
-    let mut j: usize = 0;
-    while j < i {
-        let b = clusters[j];
-        if c <= b {
-            return true;
-        }
-        if conflict(b, c) {
-            return true;
-        }
-        j += 1;
-    }
-    false
+    places::somewhere(i, |j| c <= clusters[j] || conflict(clusters[j], c))
 }
 
 // Every row is good, by itself and against the rows before it.
-fn rows_fit(most: u32, s: Splits) -> bool
-    requires { (0 < s.taxa) × (s.taxa ≤ 64) × (s.rows ≤ 125) }
-    ensures { result ≡ nowhere (bad_row most s) s.rows }
+fn rows_fit(most: u32, s: &Splits) -> bool
+    requires { (0 < s.now.taxa) × (s.now.taxa ≤ 64) × (s.now.rows ≤ 125) }
+    ensures { result ≡ nowhere (bad_row most s.now) s.now.rows }
 {
-    let k = s.taxa;
-    let rows = s.rows;
-    let clusters = s.clusters;
-    let mut i: usize = 0;
-    while i < rows {
-        if !row_fits(most, k, clusters[i], s.weights[i]) {
+    for i in 0..s.rows {
+        if !row_fits(most, s.taxa, s.clusters[i], s.weights[i])
+            || row_clashes(s.taxa, &s.clusters, i)
+        {
             return false;
         }
-        if row_clashes(k, &clusters, i) {
-            return false;
-        }
-        i += 1;
     }
     true
 }
@@ -131,34 +86,28 @@ pub fn well_formed(most: u32, n: usize, s: Splits) -> bool
     requires { n ≤ 64 }
     ensures { result ≡ well_formed most n s }
 {
-    let k = s.taxa;
-    if k < 1 {
-        return false;
-    }
-    if n < k {
-        return false;
-    }
-    if row_limit(k) < s.rows {
-        return false;
-    }
-    rows_fit(most, s)
+    1 <= s.taxa && s.taxa <= n && s.rows <= row_limit(s.taxa) && rows_fit(most, &s)
 }
 
-// The checks of a call that takes n and a list with k = n: 1 or 8 where they are refused, else 0.
-pub fn whole_refusal(n: usize, s: Splits) -> u8
-    ensures { result ≡ whole_refusal n s }
+// The checks of a call that takes n and a list with k = n: 1 and 8.
+pub fn check_whole(n: usize, s: Splits) -> Result<(), Refusal>
+    ensures { said result ≡ outcome_of (list_checks n s) }
 {
-    if n < 2 {
-        return 1;
+    if n < 2 || 64 < n {
+        return Err(Reason::Taxa.at(0));
     }
-    if 64 < n {
-        return 1;
+    if !well_formed(2000000, n, s) || s.taxa != n {
+        return Err(Reason::List.at(0));
     }
-    if !well_formed(2000000, n, s) {
-        return 8;
-    }
-    if s.taxa != n {
-        return 8;
-    }
-    0
+    Ok(())
+}
+
+// One row more, at the first spare place.
+pub fn push(list: &mut Splits, c: u64, w: u32)
+    requires { list.old.rows < 125 }
+    ensures { list.new ≡ pushed list.old c w }
+{
+    list.clusters[list.rows] = c;
+    list.weights[list.rows] = w;
+    list.rows += 1;
 }

@@ -12,7 +12,7 @@ use lib.Arith.{digits_lt, digits_div, digits_mod}
 use lib.Dec.{ltb, eqb}
 use lib.ListN.{length, get_or}
 use borrow.Author.Tests.{ltb-false, lt-ltb, le-ltb, eqb-true, eq-eqb, ne_eqb}
-use Rattle.statement.specs.declared.Outcome.TheVariants.{Done, Refused}
+use Rattle.statement.specs.Outcomes.{Done, Refused}
 use Rattle.statement.specs.Matrix.{distance, distance_limit, AcceptedMatrix}
 use Rattle.statement.specs.Table.{choose, AcceptedTable}
 use Rattle.statement.specs.Refusals.{Check, outcome_of, Passed, AllPassed, single, taxa_off, length_off, diagonal_off, distance_off, pair_off, matrix_checks, table_checks}

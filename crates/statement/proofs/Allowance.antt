@@ -9,8 +9,7 @@ use mathlib.Core.List.{List}
 use lib.Dec.{leb}
 use lib.ListN.{length}
 use Rattle.statement.specs.declared.Splits.{Splits}
-use Rattle.statement.specs.declared.Growth.{Growth}
-use Rattle.statement.specs.declared.Outcome.TheVariants.{Short}
+use Rattle.statement.specs.Outcomes.{Growth, Short}
 use Rattle.statement.specs.Rows.{Row, clusters, rows_of, list_of, WellFormed}
 use Rattle.statement.specs.Growing.{Manner, grown_rows, larger, cost, grown}
 use Rattle.statement.proofs.Rule.{Rule}

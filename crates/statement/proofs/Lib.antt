@@ -28,6 +28,7 @@ pub mod Lesser
 pub mod Parts
 pub mod Trial
 pub mod Refused
+pub mod Replies
 pub mod Pairing
 pub mod Enlarged
 pub mod Lists

@@ -7,7 +7,7 @@ use mathlib.Core.Bool.{true, false, not, ◌&&◌, ◌||◌}
 use lib.Dec.{ltb, eqb}
 use borrow.Author.Tests.{ne_eqb}
 use Rattle.statement.specs.declared.Splits.{Splits}
-use Rattle.statement.specs.declared.Outcome.TheVariants.{Done, Refused}
+use Rattle.statement.specs.Outcomes.{Done, Refused}
 use Rattle.statement.specs.Matrix.{weight_limit}
 use Rattle.statement.specs.Rows.{well_formed}
 use Rattle.statement.specs.Refusals.{outcome_of, Passed, AllPassed, whole_list_off, output_off, output_checks}

@@ -6,8 +6,7 @@ use mathlib.Core.Logic.{◌↔◌, ◌≢◌, ◌⊎◌, inl, inr}
 use mathlib.Core.Bool.{Bool, true, false, cond}
 use mathlib.Core.List.{List, [], ◌∷◌, ◌++◌}
 use borrow.Author.Tests.{ltb-true, lt-ltb, le-ltb}
-use Rattle.statement.specs.declared.Outcome.{Outcome}
-use Rattle.statement.specs.declared.Outcome.TheVariants.{Done, Short, Refused}
+use Rattle.statement.specs.Outcomes.{Outcome, Done, Short, Refused}
 use Rattle.statement.specs.Lowest.{lowest_from, lowest, somewhere}
 use Rattle.statement.specs.Refusals.{number_of, place_of, Check, single, outcome_of, Passed, Fails, AllPassed, Given}
 use Rattle.statement.specs.Calls.{unless_refused}

@@ -7,7 +7,7 @@ use mathlib.Core.List.{List, [], ◌∷◌}
 use lib.ListN.{length, length-map}
 use borrow.Author.Tests.{le-leb, lt-leb}
 use Rattle.statement.specs.declared.Splits.{Splits}
-use Rattle.statement.specs.declared.Outcome.TheVariants.{Done, Short}
+use Rattle.statement.specs.Outcomes.{Done, Short}
 use Rattle.statement.specs.Rows.{Row, clusters, rows_of, list_of}
 use Rattle.statement.specs.Growing.{Manner, grown_rows, larger, cost_of, cost, grown, rows_at, trials_at, whole_run}
 use Rattle.statement.proofs.Rule.{Rule}

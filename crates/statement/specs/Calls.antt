@@ -1,12 +1,9 @@
 -- THE REPLY OF EACH CALL, on all inputs. Document 01: "Every callable entry states its reply and the later contents of lent slices on all inputs".
 use Rattle.std.specs.Prelude.{ℕ, ◌+◌, ◌*◌, ◌-◌, ◌≡◌, cond, List, [], ◌∷◌, ◌++◌, ltb, eqb, length, drop}
 use Rattle.statement.specs.declared.Splits.{Splits}
-use Rattle.statement.specs.declared.Growth.{Growth}
-use Rattle.statement.specs.declared.Reading.{Reading}
-use Rattle.statement.specs.declared.Outcome.{Outcome}
-use Rattle.statement.specs.declared.Outcome.TheVariants.{Done, Short, Refused}
-use Rattle.statement.specs.declared.Step.{Step}
-use Rattle.statement.specs.declared.Step.TheVariants as step
+use Rattle.statement.specs.Outcomes.{Growth, Reading, Outcome, Done, Short, Refused}
+use Rattle.statement.specs.Steps.{Step}
+use Rattle.statement.specs.Steps as step
 use Rattle.statement.specs.Matrix.{distance, weight_limit}
 use Rattle.statement.specs.Table.{table_weight}
 use Rattle.statement.specs.Rows.{rows_of, list_of}

@@ -1,9 +1,7 @@
 -- Document 01, "Figures to check against": the items marked P, as one table, two of them as document 02 §7 changes them. What the definitions say, beside
 -- what the documents say.
 use Rattle.std.specs.Prelude.{ℕ, ◌≡◌, List, [], ◌∷◌, ℤ, negsuc, get_or}
-use Rattle.statement.specs.declared.Growth.{Growth}
-use Rattle.statement.specs.declared.Outcome.{Outcome}
-use Rattle.statement.specs.declared.Outcome.TheVariants.{Short, Refused}
+use Rattle.statement.specs.Outcomes.{Growth, Outcome, Short, Refused}
 use Rattle.statement.specs.Matrix.{distance, score}
 use Rattle.statement.specs.Rows.{Row, row, clusters, weight_in, rows_of}
 use Rattle.statement.specs.Tree.{tree_of, path_sum}

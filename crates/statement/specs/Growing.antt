@@ -2,8 +2,7 @@
 -- Document 02 §7: on a matrix every trivial split is extended, listed or not.
 use Rattle.std.specs.Prelude.{ℕ, zero, suc, ◌+◌, ◌*◌, ◌-◌, ◌%◌, ◌^◌, ◌≤◌, min, ◌≡◌, ◌⊎◌, ◌↔◌, ◌≢◌, Bool, true, cond, not, ◌&&◌, ◌||◌, List, [], ◌∷◌, ◌++◌, map, ltb, leb, eqb, length, ℤ, pos, negsuc, ◌≤ℤ◌, ◌<ℤ◌}
 use Rattle.statement.specs.declared.Splits.{Splits}
-use Rattle.statement.specs.declared.Growth.{Growth}
-use Rattle.statement.specs.declared.Outcome.TheVariants.{Done, Short}
+use Rattle.statement.specs.Outcomes.{Growth, Done, Short}
 use Rattle.statement.specs.Cluster.{bit, Split, Across, Trivial}
 use Rattle.statement.specs.Lowest.{lowest, somewhere, nowhere}
 use Rattle.statement.specs.Matrix.{distance, score, weight_limit, Asked, MatrixWeight, MatrixSupported, RepeatWeight, RepeatSupported}

@@ -1,4 +1,7 @@
+pub mod Outcomes
+pub mod Steps
 pub mod Cluster
+pub mod Said
 pub mod Lowest
 pub mod Matrix
 pub mod Table
@@ -14,4 +17,5 @@ pub mod NewickText
 pub mod Refusals
 pub mod Record
 pub mod Calls
+pub mod Replies
 pub mod Figures

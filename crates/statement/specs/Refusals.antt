@@ -2,8 +2,7 @@
 -- A new number is one more line here, and one more entry in the orders that give it.
 use Rattle.std.specs.Prelude.{ℕ, suc, ◌+◌, ◌*◌, ◌-◌, ◌/◌, ◌%◌, ◌<◌, ◌≡◌, ◌⊎◌, Bool, true, false, cond, not, ◌&&◌, ◌||◌, List, [], ◌∷◌, ◌++◌, ltb, eqb, length, get_or}
 use Rattle.statement.specs.declared.Splits.{Splits}
-use Rattle.statement.specs.declared.Outcome.{Outcome}
-use Rattle.statement.specs.declared.Outcome.TheVariants.{Done, Short, Refused}
+use Rattle.statement.specs.Outcomes.{Outcome, Done, Short, Refused}
 use Rattle.statement.specs.Lowest.{lowest, somewhere}
 use Rattle.statement.specs.Matrix.{distance_limit, weight_limit}
 use Rattle.statement.specs.Table.{choose}

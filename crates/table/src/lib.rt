@@ -2,12 +2,20 @@
 // one for each four of n taxa.
 #![tactic(auto)]
 
-ghost use Rattle.std.specs.Prelude.{◌≡◌, ℕ, ◌≤◌, ◌<◌, max, length, get_or};
-ghost use Rattle.statement.specs.Table.{choose};
-ghost use Rattle.statement.specs.Lowest.{lowest};
+ghost use Rattle.std.specs.Prelude.{◌≡◌, ℕ, ◌≤◌, ◌<◌, length, get_or, [], ◌∷◌, IfOk};
+ghost use Rattle.statement.specs.Table.{choose, AcceptedTable};
 ghost use Rattle.statement.specs.Refusals.{outcome_of, byte_off, table_checks};
+ghost use Rattle.statement.specs.Replies.{said};
 
-use statement::Outcome;
+use statement::{Reason, Refusal};
+
+// A table that passed its checks, with the number of its taxa.
+#[derive(Clone, Copy)]
+pub struct Table<'a> {
+    pub n: usize,
+    pub bytes: &'a [u8],
+    pub ghost accepted: { AcceptedTable n bytes.now },
+}
 
 // C(p,q), which is 0 if p < q.
 pub fn binomial(p: usize, q: usize) -> usize
@@ -17,11 +25,9 @@ pub fn binomial(p: usize, q: usize) -> usize
     if p < q {
         return 0;
     }
-    let mut r: usize = 1;
-    let mut i: usize = 0;
-    while i < q {
+    let mut r = 1;
+    for i in 0..q {
         r = r * (p - i) / (i + 1);
-        i += 1;
     }
     r
 }
@@ -34,56 +40,43 @@ pub fn fours(n: usize) -> usize
     binomial(n, 4)
 }
 
-// The greater of two bytes.
-fn greater(p: u8, q: u8) -> u8
-    ensures { result ≡ max p q }
-{
-    if p < q { q } else { p }
-}
-
 // A byte that none exceeds, looked for without a stop: where all is well there is nothing to find.
 fn greatest(bytes: &[u8]) -> u8
     ensures { (i : ℕ) → i < length bytes.now → get_or bytes.now i 0 ≤ result }
 {
-    let mut top: u8 = 0;
-    let mut at: usize = 0;
-    while at < bytes.len() {
-        top = greater(top, bytes[at]);
-        at += 1;
+    let mut top = 0;
+    for &b in bytes {
+        top = b.max(top);
     }
     top
 }
 
-// The lowest place of a byte above 3, or the length where there is none.
-fn lowest_above_three(bytes: &[u8]) -> usize
-    ensures { result ≡ lowest (byte_off bytes.now).bad (length bytes.now) }
+// Refusal 6: a byte above 3, the lowest.
+fn check_bytes(bytes: &[u8]) -> Result<(), Refusal>
+    ensures { said result ≡ outcome_of (byte_off bytes.now ∷ []) }
 {
     if greatest(bytes) <= 3 {
-        return bytes.len();
+        return Ok(());
     }
-    let mut at: usize = 0;
-    while at < bytes.len() {
-        if 3 < bytes[at] {
-            return at;
-        }
-        at += 1;
+    match bytes.iter().position(|&b| b > 3) {
+        Some(place) => Err(Reason::TableByte.at(place)),
+        None => Ok(()),
     }
-    at
 }
 
-// The table's own checks: 1, 2, 6.
-pub fn check(n: usize, bytes: &[u8]) -> Outcome
-    ensures { result ≡ outcome_of (table_checks n bytes.now) }
-{
-    if n < 2 || n > 64 {
-        return Outcome::Refused(1, 0);
+impl<'a> Table<'a> {
+    // The table's own checks: 1, 2, 6.
+    pub fn read(n: usize, bytes: &'a [u8]) -> Result<Table<'a>, Refusal>
+        ensures said { said result ≡ outcome_of (table_checks n bytes.now) }
+        ensures ok { IfOk result (λ t. (t.n ≡ n) × (t.bytes ≡ bytes.entry)) }
+    {
+        if n < 2 || n > 64 {
+            return Err(Reason::Taxa.at(0));
+        }
+        if bytes.len() != fours(n) {
+            return Err(Reason::Length.at(0));
+        }
+        check_bytes(bytes)?;
+        Ok(Table { n, bytes })
     }
-    if bytes.len() != fours(n) {
-        return Outcome::Refused(2, 0);
-    }
-    let place = lowest_above_three(bytes);
-    if place < bytes.len() {
-        return Outcome::Refused(6, place);
-    }
-    Outcome::Done
 }

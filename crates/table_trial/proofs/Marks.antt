@@ -192,9 +192,6 @@ module _ (bytes : List ℕ) (x : ℕ) (few : x ≤ 64) where
   filled_jump k h sets l none f =
       record { size = f.size; told = λ i j m ij jm mx. rw (ltb_jump (m * 4096 + j * 64 + i) k h l (none i j m ij jm mx)) (f.told i j m ij jm mx) }
 
-  pub row_end : (b c : ℕ) (sets : List ℕ) → b < c → c < x → Filled bytes x (c * 4096 + b * 64 + b) sets → Filled bytes x (c * 4096 + (b + 1) * 64) sets
-  row_end b c sets bc cx f = filled_jump (c * 4096 + b * 64 + b) (c * 4096 + (b + 1) * 64) sets (omega arith) (λ i j l ij jl lx h. omega arith) f
-
   pub rows_end : (c : ℕ) (sets : List ℕ) → 2 ≤ c → c < x → Filled bytes x (c * 4096 + c * 64) sets → Filled bytes x ((c + 1) * 4096 + 64) sets
   rows_end c sets c2 cx f = filled_jump (c * 4096 + c * 64) ((c + 1) * 4096 + 64) sets (omega arith) (λ i j l ij jl lx h. omega arith) f
 

@@ -1,10 +1,10 @@
 -- The parts of a tree's body, each by its place among the bytes. Document 01, "Records in a file". Assumes nothing.
-use Prim.Native.Nat.{ℕ, zero, suc, ◌+◌, ◌*◌, ◌-◌, ◌≤◌, ◌<◌}
+use Prim.Native.Nat.{ℕ, zero, suc, ◌+◌, ◌*◌, ◌≤◌, ◌<◌}
 use native.Mathlib.Omega.{arith}
 use mathlib.Core.Path.{◌≡◌, refl, sym, ◌∙◌, ap}
 use mathlib.Core.List.{List, [], ◌∷◌}
-use lib.ListN.{length, get_or, take, drop, length-drop, get_or-eq_default}
-use lib.Seq.{take_all, length-take-le, get_or-take, get_or-drop}
+use lib.ListN.{length, get_or, drop, length-drop}
+use lib.Seq.{length-take-le, get_or-take, get_or-drop}
 use Rattle.statement.specs.Tree.{root, up}
 use Rattle.statement.specs.Bytes.{from_bytes, tree_in, tree_length}
 use Rattle.tree_body.specs.Words.{word_at}
@@ -14,13 +14,6 @@ pub within_list : (xs : List ℕ) (i d e : ℕ) → i < length xs → get_or xs 
 within_list [] i d e l = absurd (omega arith)
 within_list (x ∷ xs) zero d e l = refl
 within_list (x ∷ xs) (suc i) d e l = within_list xs i d e (omega arith)
-
--- the part of k bytes from a on, and all from a on, as the code cuts them
-pub part_of : (a k : ℕ) (xs : List ℕ) → take (a + k - a) (drop a xs) ≡ take k (drop a xs)
-part_of a k xs = let e : a + k - a ≡ k = omega arith in ap (λ (j : ℕ). take j (drop a xs)) e
-
-pub rest_of : (a : ℕ) (xs : List ℕ) → take (length xs - a) (drop a xs) ≡ drop a xs
-rest_of a xs = take_all (length xs - a) (drop a xs) (omega (arith, length-drop a xs))
 
 -- the words of a list of bytes
 past_word : (a b c d : ℕ) (rest : List ℕ) (p q : ℕ) → q ≡ 4 + p → get_or (a ∷ b ∷ c ∷ d ∷ rest) q 0 ≡ get_or rest p 0
@@ -54,9 +47,6 @@ module _ (n : ℕ) (body : List ℕ) (sized : length body ≡ tree_length n (get
   link_at v l =
       get_or-take (get_or body 0 0) (drop 1 body) v (root (tree_in n body)) l
       ∙ get_or-drop 1 body v (root (tree_in n body)) ∙ within_list body (1 + v) (root (tree_in n body)) 0 (omega arith)
-
-  pub above_root : (v : ℕ) → get_or body 0 0 ≤ v → up (tree_in n body) v ≡ get_or body 0 0
-  above_root v l = get_or-eq_default (tree_in n body).links (root (tree_in n body)) (omega (arith, root_is)) ∙ root_is
 
   pub home_at : (i : ℕ) → i < n → get_or (tree_in n body).homes i 0 ≡ get_or body (1 + get_or body 0 0 + i) 0
   unfolding tree_in

@@ -8,14 +8,7 @@ ghost use Rattle.tree_body.specs.Words.{word_at};
 pub fn vertex(x: u8) -> usize
     ensures { result ≡ x }
 {
-    x as usize
-}
-
-// A byte as a number of 32 bits.
-fn wide(x: u8) -> u32
-    ensures { (result ≡ x) × (result < 256) }
-{
-    x as u32
+    usize::from(x)
 }
 
 // The m links.
@@ -47,8 +40,5 @@ pub fn word_at(bytes: &[u8], p: usize) -> u32
     requires { p + 3 < length bytes.now }
     ensures { result ≡ word_at bytes.now p }
 {
-    wide(bytes[p])
-        + 256 * wide(bytes[p + 1])
-        + 65536 * wide(bytes[p + 2])
-        + 16777216 * wide(bytes[p + 3])
+    u32::from_le_bytes([bytes[p], bytes[p + 1], bytes[p + 2], bytes[p + 3]])
 }

@@ -1,4 +1,3 @@
-pub mod Search
 pub mod Walked
 pub mod Tested
 pub mod Ways

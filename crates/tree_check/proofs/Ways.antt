@@ -1,20 +1,21 @@
 -- The ways out of the checks that need no clusters: what a check found, as its refusal. Assumes nothing.
-use Prim.Native.Nat.{ℕ, ◌+◌, ◌≤◌, ◌<◌}
+use Prim.Native.Nat.{ℕ, ◌+◌, ◌≤◌}
 use native.Mathlib.Omega.{arith}
-use mathlib.Core.Path.{◌≡◌, refl, sym, ◌∙◌, ap, ap₂}
-use mathlib.Core.Logic.{inl, inr, ◌≢◌}
-use mathlib.Core.Bool.{Bool, true, false, not, ◌||◌}
+use mathlib.Core.Path.{◌≡◌, sym, ◌∙◌, ap, ap₂}
+use mathlib.Core.Bool.{Bool, true, false, cond, not, ◌||◌}
 use mathlib.Core.List.{List, [], ◌∷◌}
 use lib.Dec.{ltb, eqb}
 use lib.ListN.{length, get_or, take, drop}
-use borrow.Author.Tests.{lt-ltb, le-ltb, eq-eqb, ne_eqb}
-use Rattle.statement.specs.declared.Outcome.TheVariants.{Done, Refused}
-use Rattle.statement.specs.Lowest.{lowest, somewhere}
+use borrow.Author.Tests.{le-ltb, eq-eqb}
+use Rattle.statement.specs.declared.Refusal.{Refusal}
+use Rattle.statement.specs.Outcomes.{Outcome, Done, Refused}
+use Rattle.statement.specs.Lowest.{somewhere}
 use Rattle.statement.specs.Tree.{root}
 use Rattle.statement.specs.Bytes.{from_bytes, tree_in, tree_length}
-use Rattle.statement.specs.Refusals.{Check, outcome_of, Passed, Given, taxa_off, length_off, tree_fits, tree_off, weight_off, walk_off, home_off}
-use Rattle.statement.proofs.Refused.{passes, fails, single_fails, given_refused, passed_done}
-use Rattle.statement.proofs.Accepted.{single_passed, taxa_passed}
+use Rattle.statement.specs.Refusals.{Check, outcome_of, tree_fits, weight_off, walk_off, home_off}
+use Rattle.statement.specs.Replies.{refused_for}
+use Rattle.statement.proofs.Refused.{none_left}
+use Rattle.places.proofs.Orders.{refused_first, passed_on, single_first}
 use Rattle.tree_body.proofs.Body.{root_is, home_at}
 use Rattle.tree_check.specs.Parts.{linked, bad_weight, first_checks}
 use Rattle.tree_check.proofs.Walked.{walks_of_links}
@@ -23,111 +24,81 @@ use Rattle.tree_check.proofs.Walked.{walks_of_links}
 abbrev pub above : ℕ → List ℕ → ℕ → Bool
 above n body m = somewhere (λ i. ltb m (get_or body (1 + i) 0)) (m + n)
 
--- 1 AND 2
+-- 1, 2 AND 9: where none of them is given, the checks behind them have the say
 module _ (n : ℕ) (body : List ℕ) where
-  pub too_few : n < 2 → Refused 1 0 ≡ outcome_of (first_checks n body)
-  too_few h = sym (given_refused (first_checks n body) 1 0 (inl (single_fails 1 _ (rw (lt-ltb n 2 h)))))
+  abbrev pub behind : Outcome
+  behind = outcome_of (weight_off (tree_in n body) ∷ walk_off (tree_in n body) ∷ home_off (tree_in n body) ∷ [])
 
-  pub too_many : 2 ≤ n → 64 < n → Refused 1 0 ≡ outcome_of (first_checks n body)
-  too_many h l = sym (given_refused (first_checks n body) 1 0 (inl (single_fails 1 _ (rw (le-ltb n 2 h, lt-ltb 64 n l)))))
+  pub first_outcome : (m : ℕ) → m ≡ get_or body 0 0 → outcome_of (first_checks n body)
+      ≡ cond (ltb n 2 || ltb 64 n) (Refused 1 0)
+      (cond (not (tree_fits n (length body))) (Refused 2 0) (cond (not (eqb (length body) (tree_length n m)) || above n body m) (Refused 9 0) behind))
+  first_outcome m first =
+      single_first 1 _ _ ∙ ap (cond (ltb n 2 || ltb 64 n) (Refused 1 0))
+      (single_first 2 _ _ ∙ ap (cond (not (tree_fits n (length body))) (Refused 2 0))
+      (single_first 9 _ _ ∙ ap (λ (k : ℕ). cond (not (eqb (length body) (tree_length n k)) || above n body k) (Refused 9 0) behind) (sym first)))
 
-  pub wrong_length : (2 ≤ n) × (n ≤ 64) → false ≡ tree_fits n (length body) → Refused 2 0 ≡ outcome_of (first_checks n body)
-  wrong_length taxa e = sym (given_refused (first_checks n body) 2 0 (inr ((taxa_passed n).1 taxa, inl (single_fails 2 _ (ap not (sym e))))))
-
--- the number of taxa and the length fit, and m is the first byte
-pub record Fitting (n : ℕ) (body : List ℕ) (m : ℕ) : Type 0 where
-  pub taxa : (2 ≤ n) × (n ≤ 64)
-  pub fits : true ≡ tree_fits n (length body)
-  pub first : m ≡ get_or body 0 0
-
--- 9
-module _ (n : ℕ) (body : List ℕ) (m : ℕ) (f : Fitting n body m) where
-  taxa_good : Passed (taxa_off n)
-  taxa_good = (taxa_passed n).1 f.taxa
-
-  length_good : Passed (length_off (tree_fits n (length body)))
-  length_good = (single_passed 2 (not (tree_fits n (length body)))).1 (ap not (sym f.fits))
-
-  shape : {b s : Bool} → eqb (length body) (tree_length n m) ≡ b → above n body m ≡ s → (tree_off n body).bad 0 ≡ (not b || s)
-  shape e d =
-      ap (λ (k : ℕ). not (eqb (length body) (tree_length n k)) || above n body k) (sym f.first) ∙ ap₂ (λ (x y : Bool). not x || y) e d
-
-  shape_bad : (tree_off n body).bad 0 ≡ true → Refused 9 0 ≡ outcome_of (first_checks n body)
-  shape_bad e = sym (given_refused (first_checks n body) 9 0 (inr (taxa_good, inr (length_good, inl (single_fails 9 _ e)))))
-
-  pub wrong_count : length body ≢ tree_length n m → Refused 9 0 ≡ outcome_of (first_checks n body)
-  wrong_count d = shape_bad (shape (ne_eqb _ _ d) refl)
-
-  pub wrong_vertex : length body ≡ tree_length n m → true ≡ above n body m → Refused 9 0 ≡ outcome_of (first_checks n body)
-  wrong_vertex e d = shape_bad (shape (eq-eqb _ _ e) (sym d))
-
--- and m agrees with the length, and no link or home is above it
+-- past these, m is the first byte and agrees with the length
 pub record Shaped (n : ℕ) (body : List ℕ) (m : ℕ) : Type 0 where
-  pub fitting : Fitting n body m
+  pub two : 2 ≤ n
+  pub first : m ≡ get_or body 0 0
   pub sized : length body ≡ tree_length n m
-  pub low : false ≡ above n body m
+  pub passed : outcome_of (first_checks n body) ≡ behind n body
+
+pub shaped : (n : ℕ) (body : List ℕ) (m : ℕ) → 2 ≤ n → n ≤ 64 → tree_fits n (length body) ≡ true → m ≡ get_or body 0 0
+    → length body ≡ tree_length n m → above n body m ≡ false → Shaped n body m
+shaped n body m two few fits first sized low = record {
+  two = two;
+  first = first;
+  sized = sized;
+  passed = first_outcome n body m first ∙ rw (le-ltb n 2 two, le-ltb 64 n few, fits, eq-eqb _ _ sized, low);
+}
 
 module _ (n : ℕ) (body : List ℕ) (m : ℕ) (s : Shaped n body m) where
-  abbrev is : m ≡ get_or body 0 0
-  is = s.fitting.first
-
-  shape_good : Passed (tree_off n body)
-  shape_good i l = shape n body m s.fitting (eq-eqb _ _ s.sized) (sym s.low)
-
   long : length body ≡ tree_length n (get_or body 0 0)
-  long = s.sized ∙ ap (tree_length n) is
+  long = s.sized ∙ ap (tree_length n) s.first
 
   pub edges : root (tree_in n body) ≡ m
-  edges = root_is n body long ∙ sym is
+  edges = root_is n body long ∙ sym s.first
 
-  -- what the checks after these give is given
-  later : (number place : ℕ) → Given (weight_off (tree_in n body) ∷ walk_off (tree_in n body) ∷ home_off (tree_in n body) ∷ []) number place
-      → Refused number place ≡ outcome_of (first_checks n body)
-  later number place g =
-      sym (given_refused (first_checks n body) number place
-      (inr (taxa_good n body m s.fitting, inr (length_good n body m s.fitting, inr (shape_good, g)))))
+  -- 14: the bytes of the weights
+  module _ (bytes : List ℕ) (part : bytes ≡ drop (1 + m + n) body) where
+    abbrev pub weights : Check
+    weights = record { number = 14; places = m; bad = bad_weight (from_bytes bytes) }
 
-  -- 14: the search for a bad weight came to r
-  module _ (bytes : List ℕ) (part : bytes ≡ drop (1 + m + n) body) (r : ℕ) (at : r ≡ lowest (bad_weight (from_bytes bytes)) m) where
-    weights_at : r ≡ lowest (weight_off (tree_in n body)).bad (root (tree_in n body))
+    same_weights : weights ≡ weight_off (tree_in n body)
     unfolding tree_in
-    weights_at =
-        at ∙ ap₂ (λ (xs : List ℕ) (k : ℕ). lowest (bad_weight (from_bytes xs)) k) (part ∙ ap (λ (k : ℕ). drop (1 + k + n) body) is) (sym edges)
+    same_weights =
+        ap₂ (λ (xs : List ℕ) (k : ℕ). record { number = 14; places = k; bad = bad_weight (from_bytes xs) })
+        (part ∙ ap (λ (k : ℕ). drop (1 + k + n) body) s.first) (sym edges)
 
-    pub wrong_weight : r < m → Refused 14 r ≡ outcome_of (first_checks n body)
-    wrong_weight l = later 14 r (inl (fails (weight_off (tree_in n body)) r weights_at (omega (arith, edges))))
+    pub wrong_weight : (r : Refusal) → refused_for r ≡ outcome_of (weights ∷ []) → refused_for r ≡ outcome_of (first_checks n body)
+    wrong_weight r e = refused_first _ _ r (e ∙ ap (λ (c : Check). outcome_of (c ∷ [])) same_weights) ∙ sym s.passed
 
-    pub weights_good : m ≤ r → Passed (weight_off (tree_in n body))
-    weights_good l = passes (weight_off (tree_in n body)) r weights_at (omega (arith, edges))
+    pub weights_good : Done ≡ outcome_of (weights ∷ []) → outcome_of (first_checks n body) ≡ outcome_of (walk_off (tree_in n body) ∷ home_off (tree_in n body) ∷ [])
+    weights_good e = s.passed ∙ passed_on _ _ (e ∙ ap (λ (c : Check). outcome_of (c ∷ [])) same_weights)
 
-  -- 10: the search for a walk that never reaches the root came to r
-  module _ (links : List ℕ) (part : links ≡ take m (drop 1 body)) (r : ℕ) (at : r ≡ lowest (walk_off (linked links)).bad (length links)) where
-    walks_at : r ≡ lowest (walk_off (tree_in n body)).bad (root (tree_in n body))
+  -- 10: the links
+  module _ (links : List ℕ) (part : links ≡ take m (drop 1 body)) where
+    same_walks : walk_off (linked links) ≡ walk_off (tree_in n body)
     unfolding tree_in
-    walks_at =
-        at ∙ ap (λ (xs : List ℕ). lowest (walk_off (linked xs)).bad (length xs)) (part ∙ ap (λ (k : ℕ). take k (drop 1 body)) is)
-        ∙ ap (λ (c : Check). lowest c.bad c.places) (sym (walks_of_links (tree_in n body)))
+    same_walks =
+        ap (λ (xs : List ℕ). walk_off (linked xs)) (part ∙ ap (λ (k : ℕ). take k (drop 1 body)) s.first)
+        ∙ sym (walks_of_links (tree_in n body))
 
-    pub wrong_walk : Passed (weight_off (tree_in n body)) → r < m → Refused 10 r ≡ outcome_of (first_checks n body)
-    wrong_walk w l = later 10 r (inr (w, inl (fails (walk_off (tree_in n body)) r walks_at (omega (arith, edges)))))
+    pub wrong_walk : (o : Outcome) → o ≡ outcome_of (walk_off (tree_in n body) ∷ home_off (tree_in n body) ∷ [])
+        → (r : Refusal) → refused_for r ≡ outcome_of (walk_off (linked links) ∷ []) → refused_for r ≡ o
+    wrong_walk o is r e = refused_first _ _ r (e ∙ ap (λ (c : Check). outcome_of (c ∷ [])) same_walks) ∙ sym is
 
-    pub walks_good : m ≤ r → Passed (walk_off (tree_in n body))
-    walks_good l = passes (walk_off (tree_in n body)) r walks_at (omega (arith, edges))
+    pub walks_good : (o : Outcome) → o ≡ outcome_of (walk_off (tree_in n body) ∷ home_off (tree_in n body) ∷ [])
+        → Done ≡ outcome_of (walk_off (linked links) ∷ []) → o ≡ outcome_of (home_off (tree_in n body) ∷ [])
+    walks_good o is e = is ∙ passed_on _ _ (e ∙ ap (λ (c : Check). outcome_of (c ∷ [])) same_walks)
 
   -- 11: taxon 0 is at home at h
-  module _ (weighed : Passed (weight_off (tree_in n body))) (walked : Passed (walk_off (tree_in n body))) (h : ℕ) (at : h ≡ get_or body (1 + m) 0) where
-    home_is : {b : Bool} → eqb h m ≡ b → (home_off (tree_in n body)).bad 0 ≡ not b
-    home_is d =
-        ap₂ (λ (x y : ℕ). not (eqb x y))
-        (home_at n body long 0 (omega (arith, s.fitting.taxa)) ∙ ap (λ (k : ℕ). get_or body k 0) place ∙ sym at) edges ∙ ap not d
-      where
-        place : 1 + get_or body 0 0 + 0 ≡ 1 + m
-        place = omega (arith, is)
+  pub home_outcome : (h : ℕ) → h ≡ get_or body (1 + m) 0 → outcome_of (home_off (tree_in n body) ∷ []) ≡ cond (not (eqb h m)) (Refused 11 0) Done
+  home_outcome h at = single_first 11 _ [] ∙ ap₂ (λ (x y : ℕ). cond (not (eqb x y)) (Refused 11 0) (outcome_of [])) home edges ∙ ap (cond (not (eqb h m)) (Refused 11 0)) none_left
+    where
+      place : 1 + get_or body 0 0 + 0 ≡ 1 + m
+      place = omega (arith, s.first)
 
-    pub wrong_home : h ≢ m → Refused 11 0 ≡ outcome_of (first_checks n body)
-    wrong_home d = later 11 0 (inr (weighed, inr (walked, inl (single_fails 11 _ (home_is (ne_eqb _ _ d))))))
-
-    pub none_wrong : h ≡ m → Done ≡ outcome_of (first_checks n body)
-    none_wrong d =
-        sym (passed_done (first_checks n body)
-        (taxa_good n body m s.fitting, (length_good n body m s.fitting, (shape_good, (weighed, (walked, ((λ i l. home_is (eq-eqb _ _ d)), tt)))))))
+      home : get_or (tree_in n body).homes 0 0 ≡ h
+      home = home_at n body long 0 (omega (arith, s.two)) ∙ ap (λ (k : ℕ). get_or body k 0) place ∙ sym at

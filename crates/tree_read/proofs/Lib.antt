@@ -4,6 +4,5 @@ pub mod Passed
 pub mod Clusters
 pub mod Rows
 pub mod Marking
-pub mod Twins
 pub mod Replies
 pub mod Renumbered

@@ -1,17 +1,17 @@
 -- Clusters made a taxon at a time: its group is added at each edge that the walk from its home passes, once. Assumes nothing.
 use Prim.Native.Nat.{ℕ, ◌+◌, ◌^◌, ◌≤◌, ◌<◌}
 use native.Mathlib.Omega.{arith}
-use native.Mathlib.Decide.{ℕ_discrete}
+use native.Mathlib.Decide.{ℕ_discrete, dec_lt}
 use native.Mathlib.Numerals.{add-one}
 use mathlib.Core.Path.{◌≡◌, refl, sym, ◌∙◌, ap}
 use mathlib.Core.Logic.{◌≢◌}
-use mathlib.Core.Bool.{Bool, true, false, cond}
+use mathlib.Core.Bool.{Bool, true, false, cond, ◌&&◌}
 use mathlib.Core.List.{List, []}
-use lib.Dec.{eqb}
+use lib.Dec.{ltb, eqb}
 use lib.ListN.{length, get_or, set, length-set}
 use lib.Seq.{get_or-set_same, get_or-set_other}
 use borrow.Author.Count.{below_more}
-use borrow.Author.Tests.{eq-eqb, ne_eqb}
+use borrow.Author.Tests.{eq-eqb, ne_eqb, lt-ltb, le-ltb}
 use Rattle.statement.specs.Cluster.{group_of}
 use Rattle.statement.specs.Lowest.{somewhere}
 use Rattle.statement.specs.Tree.{Tree, walk, on_walk, cluster_of}
@@ -49,7 +49,7 @@ module _ {links : List ℕ} {home group s x : ℕ} {before after : List ℕ} (is
   same_elsewhere : (v : ℕ) → v < length links → v ≢ x → get_or after v 0 ≡ get_or before v 0 + cond (passes links home v (s + 1)) group 0
   same_elsewhere v l n = rw (elsewhere v n) (marked.each v l)
 
-  pub mark_root : length links ≤ x → Marked links home group (s + 1) before after
+  mark_root : length links ≤ x → Marked links home group (s + 1) before after
   mark_root h = record { long = marked.long; each = λ v l. same_elsewhere v l (λ e. omega arith) }
 
   module _ (edge : x < length links) (small : get_or before x 0 < group) where
@@ -71,13 +71,24 @@ module _ {links : List ℕ} {home group s x : ℕ} {before after : List ℕ} (is
         go v l (no n) = others v n ∙ same_elsewhere v l n
         go v l (yes e) = rw (e, here) at
 
-    pub mark_kept : group ≤ get_or after x 0 → Marked links home group (s + 1) before after
+    mark_kept : group ≤ get_or after x 0 → Marked links home group (s + 1) before after
     mark_kept h = settled after marked.long (λ v n. refl) (marked_yet (passes links home x s) (marked.each x edge) h)
 
-    pub mark_put : x < 125 → get_or after x 0 < group → Marked links home group (s + 1) before (set after x (get_or after x 0 + group))
+    mark_put : x < 125 → get_or after x 0 < group → Marked links home group (s + 1) before (set after x (get_or after x 0 + group))
     mark_put r h =
         settled (set after x (get_or after x 0 + group)) (length-set after x _ ∙ marked.long) (λ v n. get_or-set_other after x v _ 0 n)
         (get_or-set_same after x _ 0 (omega (arith, marked.long)) ∙ ap (λ (c : ℕ). c + group) (unmarked (passes links home x s) (marked.each x edge) h))
+
+  -- one step of the code
+  pub mark_on : length links ≤ 125 → ((v : ℕ) → v < length links → get_or before v 0 < group) → (now : List ℕ)
+      → now ≡ cond (ltb x (length links) && ltb (get_or after x 0) group) (set after x (get_or after x 0 + group)) after
+      → Marked links home group (s + 1) before now
+  mark_on short small now e = go (dec_lt x (length links)) (dec_lt (get_or after x 0) group)
+    where
+      go : Dec (x < length links) → Dec (get_or after x 0 < group) → Marked links home group (s + 1) before now
+      go (yes l) (yes h) = rw (e, lt-ltb x (length links) l, lt-ltb (get_or after x 0) group h) (mark_put l (small x l) (omega arith) h)
+      go (yes l) (no h) = rw (e, lt-ltb x (length links) l, le-ltb (get_or after x 0) group (omega arith)) (mark_kept l (small x l) (omega arith))
+      go (no l) d = rw (e, le-ltb x (length links) (omega arith)) (mark_root (omega arith))
 
 -- THE CLUSTERS, with one taxon more
 pub cluster_below : (t : Tree) (v n : ℕ) → cluster_of t v n < 2 ^ n

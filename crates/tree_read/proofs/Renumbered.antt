@@ -21,7 +21,7 @@ use Rattle.statement.proofs.Bits.{zero_or_one, lt_bit}
 use Rattle.statement.proofs.Groups.{part_le}
 use Rattle.statement.proofs.Tests.{same_is, both_is, none_is, unless_is, fails_is}
 use Rattle.statement.proofs.Walks.{map_at, numbers_length}
-use Rattle.tree_check.proofs.Search.{found, missed}
+use Rattle.statement.proofs.Lowest.{lowest_at, lowest_none, none_at}
 use Rattle.tree_read.specs.Accepted.{Leads, AcceptedTree, home_in}
 use Rattle.row_sort.specs.Sorted.{sorted_of}
 use Rattle.tree_read.specs.SameTree.{SameTree, row_place}
@@ -80,12 +80,14 @@ module _ (n : ℕ) (t : Tree) (a : AcceptedTree n t) where
   ascending : (p q : ℕ) → p < q → q < root t → cluster_at rows p < cluster_at rows q
   ascending = ascends (edge n t) (root t) n (tree_edges n t a)
 
+  none_passes : (test : ℕ → Bool) → ((p : ℕ) → p < root t → test p ≡ false) → lowest test (length rows) ≡ root t
+  none_passes test f = lowest_none test (length rows) (none_at test (length rows) (λ p l. f p (omega (arith, count)))) ∙ count
+
   -- THE NUMBER of a vertex is the row that has its cluster
   row_placed : (v p : ℕ) → p < root t → get_or rows p (row 0 0) ≡ edge n t v → p ≡ place v
   row_placed v p l e =
-      found (λ q. eqb (cluster_at rows q) (cluster_of t v n)) (length rows) p
-      (λ j h. ne_eqb (cluster_at rows j) (cluster_of t v n) (λ q. omega (arith, is, ascending j p h l)))
-      (omega (arith, count)) (eq-eqb _ _ is)
+      sym (lowest_at (λ q. eqb (cluster_at rows q) (cluster_of t v n)) (length rows) p (omega (arith, count)) (eq-eqb _ _ is)
+      (λ j h. ne_eqb (cluster_at rows j) (cluster_of t v n) (λ q. omega (arith, is, ascending j p h l))))
     where
       is : cluster_at rows p ≡ cluster_of t v n
       is = cluster_at_law (edge n t) (root t) p ∙ ap (λ (r : Row). r.cluster) e
@@ -109,8 +111,7 @@ module _ (n : ℕ) (t : Tree) (a : AcceptedTree n t) where
   -- the root's cluster has taxon 0, so no row has it
   place_root : place (root t) ≡ root t
   place_root =
-      sym (missed (λ q. eqb (cluster_at rows q) (cluster_of t (root t) n)) (length rows) (root t) (λ p l. ne_eqb _ _ (differ p l))
-      (omega (arith, count)) (omega (arith, count)))
+      none_passes (λ q. eqb (cluster_at rows q) (cluster_of t (root t) n)) (λ p l. ne_eqb _ _ (differ p l))
     where
       with_first : In (cluster_of t (root t) n) 0
       with_first = (cluster_in n t a (root t) 0 (omega (arith, a.two))).1 (0, walk_none t (home_in t 0) ∙ a.first)
@@ -131,7 +132,7 @@ module _ (n : ℕ) (t : Tree) (a : AcceptedTree n t) where
 
       go : Dec (x < root t) → lowest test (length rows) ≡ place x
       go (yes h) =
-          sym (found test (length rows) (place x)
+          lowest_at test (length rows) (place x) (omega (arith, count, (placed x h).0)) ((is (place x) x h (place_cluster x h)).1 (0, walk_none t x))
           (λ p lp. failing p (omega (arith, (placed x h).0)) (λ u lu e w.
           omega (
             arith,
@@ -139,12 +140,10 @@ module _ (n : ℕ) (t : Tree) (a : AcceptedTree n t) where
             place_cluster x h,
             part_le n (cluster_of t x n) (cluster_of t u n) (cluster_split n t a x h).below (part_above n t a x u w),
           )))
-          (omega (arith, count, (placed x h).0)) ((is (place x) x h (place_cluster x h)).1 (0, walk_none t x)))
       go (no h) =
           let e : x ≡ root t = omega arith in
-          sym (missed test (length rows) (root t)
+          none_passes test
           (λ p lp. failing p lp (λ u lu q w. let (s, r) = subst (λ (y : ℕ). Leads t y u) e w in omega (arith, sym r ∙ walk_root t s)))
-          (omega (arith, count)) (omega (arith, count)))
           ∙ sym (ap place e ∙ place_root)
 
   -- A LINK: a cluster is strictly in another exactly where the link leads there

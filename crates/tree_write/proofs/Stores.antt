@@ -1,11 +1,11 @@
 -- What the writer's stores leave: bytes pasted one after the other, up to the whole body. Assumes nothing.
-use Prim.Native.Nat.{ℕ, zero, suc, ◌+◌, ◌*◌, ◌/◌, ◌%◌, ◌≤◌, ◌<◌}
+use Prim.Native.Nat.{ℕ, zero, suc, ◌+◌, ◌*◌, ◌≤◌, ◌<◌}
 use native.Mathlib.Omega.{arith}
 use native.Mathlib.Numerals.{add-one}
 use mathlib.Core.Path.{◌≡◌, refl, sym, ◌∙◌, ap, ap₂}
 use mathlib.Core.List.{List, [], ◌∷◌, ◌++◌, append_assoc}
 use lib.ListN.{length, take, drop, get_or, set, length-set, get_or-append}
-use lib.Seq.{sets-eq, paste, paste-suc, take-paste, drop-paste, drop-drop, drop-nil, drop-cons, take-add, take_all, take-take, take-suc-set, get_or-append-add}
+use lib.Seq.{paste, paste-suc, take-paste, drop-paste, drop-drop, drop-nil, drop-cons, take-add, take_all, take-take, take-suc-set, get_or-append-add}
 use Rattle.statement.specs.Rows.{Row}
 use Rattle.statement.specs.Tree.{Tree, root, link_of, home_of, tree_of}
 use Rattle.statement.specs.Bytes.{four_bytes, to_bytes, tree_body, tree_length}
@@ -31,15 +31,6 @@ pub one_more : (d s o : List ℕ) (at j x : ℕ) → at + j < length d → j < l
     → set o (at + j) x ≡ paste d at s (j + 1)
 one_more d s o at j x h k e v =
     ap₂ (λ (l : List ℕ) (y : ℕ). set l (at + j) y) e v ∙ paste-suc d at s j 0 h k ∙ ap (paste d at s) (sym (add-one j))
-
--- four of them
-pub four_stored : (o : List ℕ) (at w : ℕ) → at + 4 ≤ length o
-    → set (set (set (set o at (w % 256)) (at + 1) (w / 256 % 256)) (at + 2) (w / 65536 % 256)) (at + 3) (w / 16777216 % 256) ≡ paste o at (four_bytes w) 4
-four_stored o at w h =
-    let one : at + 1 ≡ suc at = omega arith in
-    let two : at + 2 ≡ suc (suc at) = omega arith in
-    let three : at + 3 ≡ suc (suc (suc at)) = omega arith in
-    simp (one, two, three) (sets-eq (four_bytes w) o at h)
 
 -- A PASTE GOES ON where it ended
 paste_more : (d s : List ℕ) (at k j : ℕ) → at ≤ length d → k ≤ length s → paste (paste d at s k) (at + k) (take j (drop k s)) j ≡ paste d at s (k + j)

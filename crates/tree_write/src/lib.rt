@@ -9,18 +9,17 @@ ghost use Rattle.statement.specs.Matrix.{weight_limit};
 ghost use Rattle.statement.specs.Tree.{strictly_in, link_of, home_of, tree_of};
 ghost use Rattle.statement.specs.Bytes.{four_bytes, to_bytes, tree_body, tree_length};
 ghost use Rattle.statement.specs.Calls.{write_tree, tree_written};
+ghost use Rattle.statement.specs.Replies.{said};
 ghost use Rattle.tree_write.specs.Vertices.{ClustersOf, vertices};
 
-use statement::{Outcome, Splits};
+use splits_list::check_whole;
+use statement::{Reason, Refusal, Splits};
 
 // The cluster a is strictly in the cluster b.
 fn strictly_in(a: u64, b: u64) -> bool
     ensures { (n : ℕ) → a < 2 ^ n → result ≡ strictly_in n a b }
 {
-    if a == b {
-        return false;
-    }
-    a & b == a
+    a != b && a & b == a
 }
 
 // The link of row i of m: the smallest cluster that strictly contains its own, which is the lowest, else m.
@@ -30,14 +29,7 @@ pub fn link_of(n: usize, clusters: &[u64; 125], m: usize, i: usize) -> usize
     ensures value { (rows : List Row) → ClustersOf rows clusters.now m → result ≡ link_of n rows i }
 {
     let own = clusters[i];
-    let mut j: usize = 0;
-    while j < m {
-        if strictly_in(own, clusters[j]) {
-            return j;
-        }
-        j += 1;
-    }
-    m
+    places::lowest(m, |j| strictly_in(own, clusters[j]))
 }
 
 // The home of a taxon: the smallest cluster that contains it, which is the lowest, else m.
@@ -46,14 +38,7 @@ pub fn home_of(clusters: &[u64; 125], m: usize, taxon: usize) -> usize
     ensures upper_bound { result ≤ m }
     ensures value { (rows : List Row) → ClustersOf rows clusters.now m → result ≡ home_of rows taxon }
 {
-    let mut j: usize = 0;
-    while j < m {
-        if (clusters[j] >> taxon) % 2 == 1 {
-            return j;
-        }
-        j += 1;
-    }
-    m
+    places::lowest(m, |j| (clusters[j] >> taxon) % 2 == 1)
 }
 
 // What stands at a place of the body's m links and n homes, as a byte.
@@ -63,22 +48,19 @@ fn vertex_at(n: usize, clusters: &[u64; 125], m: usize, i: usize) -> u8
     ensures { (rows : List Row) → ClustersOf rows clusters.now m → result ≡ get_or (vertices (tree_of n rows)) i 0 }
 {
     if i < m {
-        return link_of(n, clusters, m, i) as u8;
+        link_of(n, clusters, m, i) as u8
+    } else {
+        home_of(clusters, m, i - m) as u8
     }
-    home_of(clusters, m, i - m) as u8
 }
 
 // The links and the homes, behind the first byte of the slice.
-fn put_vertices(n: usize, s: Splits, out: &mut [u8])
-    requires { (n ≤ 64) × WellFormed weight_limit n s × (1 + s.rows + n ≤ length out.old) }
-    ensures { out.new ≡ paste out.old 1 (vertices (tree_of n (rows_of s))) (s.rows + n) }
+fn put_vertices(n: usize, s: &Splits, out: &mut [u8])
+    requires { (n ≤ 64) × WellFormed weight_limit n s.now × (1 + s.now.rows + n ≤ length out.old) }
+    ensures { out.new ≡ paste out.old 1 (vertices (tree_of n (rows_of s.now))) (s.now.rows + n) }
 {
-    let m = s.rows;
-    let clusters = s.clusters;
-    let mut i: usize = 0;
-    while i < m + n {
-        out[1 + i] = vertex_at(n, &clusters, m, i);
-        i += 1;
+    for i in 0..s.rows + n {
+        out[1 + i] = vertex_at(n, &s.clusters, s.rows, i);
     }
 }
 
@@ -87,49 +69,38 @@ pub fn put_four(w: u32, at: usize, out: &mut [u8])
     requires { at + 4 ≤ length out.old }
     ensures { out.new ≡ paste out.old at (four_bytes w) 4 }
 {
-    out[at] = (w % 256) as u8;
-    out[at + 1] = (w / 256 % 256) as u8;
-    out[at + 2] = (w / 65536 % 256) as u8;
-    out[at + 3] = (w / 16777216 % 256) as u8;
+    out[at..at + 4].copy_from_slice(&w.to_le_bytes());
 }
 
 // The weights, from a place on.
-fn put_weights(s: Splits, at: usize, out: &mut [u8])
-    requires { (s.rows ≤ 125) × (at + 4 * s.rows ≤ length out.old) }
-    ensures { out.new ≡ paste out.old at (to_bytes (weights (rows_of s))) (4 * s.rows) }
+fn put_weights(s: &Splits, at: usize, out: &mut [u8])
+    requires { (s.now.rows ≤ 125) × (at + 4 * s.now.rows ≤ length out.old) }
+    ensures { out.new ≡ paste out.old at (to_bytes (weights (rows_of s.now))) (4 * s.now.rows) }
 {
-    let m = s.rows;
-    let mut i: usize = 0;
-    while i < m {
+    for i in 0..s.rows {
         put_four(s.weights[i], at + 4 * i, out);
-        i += 1;
     }
 }
 
 // The body of the tree of a well-formed list, in a slice of its length.
-fn put_tree(n: usize, s: Splits, out: &mut [u8])
-    requires { (n ≤ 64) × WellFormed weight_limit n s × (length out.old ≡ tree_length n s.rows) }
-    ensures { out.new ≡ tree_body (tree_of n (rows_of s)) }
+fn put_tree(n: usize, s: &Splits, out: &mut [u8])
+    requires { (n ≤ 64) × WellFormed weight_limit n s.now × (length out.old ≡ tree_length n s.now.rows) }
+    ensures { out.new ≡ tree_body (tree_of n (rows_of s.now)) }
 {
-    let m = s.rows;
-    out[0] = m as u8;
+    out[0] = s.rows as u8;
     put_vertices(n, s, out);
-    put_weights(s, 1 + m + n, out);
+    put_weights(s, 1 + s.rows + n, out);
 }
 
 // The tree of a list with k = n: 1, 8, 7, or the slice filled.
-pub fn write_tree(n: usize, s: Splits, out: &mut [u8]) -> Outcome
-    ensures value { result ≡ write_tree n s out.old }
+pub fn write_tree(n: usize, s: Splits, out: &mut [u8]) -> Result<(), Refusal>
+    ensures value { said result ≡ write_tree n s out.old }
     ensures out_after { out.new ≡ tree_written n s out.old }
 {
-    let refusal = splits_list::whole_refusal(n, s);
-    if refusal != 0 {
-        return Outcome::Refused(refusal, 0);
+    check_whole(n, s)?;
+    if out.len() != 1 + n + 5 * s.rows {
+        return Err(Reason::Output.at(0));
     }
-    let m = s.rows;
-    if out.len() != 1 + n + 5 * m {
-        return Outcome::Refused(7, 0);
-    }
-    put_tree(n, s, out);
-    Outcome::Done
+    put_tree(n, &s, out);
+    Ok(())
 }

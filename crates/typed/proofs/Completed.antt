@@ -11,7 +11,7 @@ use lib.Arith.{digits_lt, digits_div, digits_mod}
 use lib.Dec.{ltb, eqb}
 use lib.ListN.{length, get_or}
 use borrow.Author.Tests.{lt-ltb, le-ltb, eq-eqb, ne_eqb}
-use Rattle.statement.specs.declared.Outcome.TheVariants.{Done}
+use Rattle.statement.specs.Outcomes.{Done}
 use Rattle.statement.specs.Matrix.{distance, distance_limit, AcceptedMatrix}
 use Rattle.statement.specs.Refusals.{outcome_of, matrix_checks}
 use Rattle.statement.proofs.Accepted.{matrix_accepted}

@@ -1,7 +1,7 @@
 -- The entries of a typed matrix, one by one, and the sizes of what is reckoned with. Assumes nothing.
-use Prim.Native.Nat.{ℕ, ◌+◌, ◌*◌, ◌-◌, ◌/◌, ◌%◌, ◌≤◌, ◌<◌}
+use Prim.Native.Nat.{ℕ, ◌+◌, ◌*◌, ◌/◌, ◌%◌, ◌≤◌, ◌<◌}
 use native.Mathlib.Omega.{arith}
-use native.Mathlib.Nat.{mul-le-mul, mod-lt, div-lt_iff_lt-mul}
+use native.Mathlib.Nat.{mul-le-mul}
 use mathlib.Core.Path.{◌≡◌, refl, ◌∙◌, ap}
 use mathlib.Core.Logic.{◌⊎◌, inl, inr}
 use mathlib.Core.Bool.{Bool, true, false, cond}
@@ -13,25 +13,11 @@ use borrow.Author.Tests.{eqb-true}
 use Rattle.statement.specs.Tree.{numbers}
 use Rattle.statement.proofs.Walks.{numbers_length, map_at}
 use Rattle.numerals.specs.Numerals.{numbers_in}
-use Rattle.typed.specs.Typed.{values_in, half, is_full, value_for, mirrored, entries_of}
+use Rattle.typed.specs.Typed.{values_in, is_full, value_for, mirrored, entries_of}
 
--- for at most 64 taxa all is small
+-- for at most 64 taxa there are few entries
 pub square_small : (n : ℕ) → n ≤ 64 → n * n ≤ 4096
 square_small n l = mul-le-mul l l
-
-pub rows_small : (i : ℕ) → i ≤ 64 → i * (i - 1) ≤ 4096
-rows_small i l = let m : i - 1 ≤ 64 = omega arith in mul-le-mul l m
-
-pub half_small : (i : ℕ) → i ≤ 64 → half i ≤ 2048
-half_small i l = omega (arith, rows_small i l)
-
--- row and column of an entry
-module _ (n e : ℕ) (some : 2 ≤ n) (l : e < n * n) where
-  pub row_below : e / n < n
-  row_below = let pn : 0 < n = omega arith in (div-lt_iff_lt-mul pn).1 l
-
-  pub column_below : e % n < n
-  column_below = mod-lt e (omega arith)
 
 -- value k is the number behind n and k others
 pub value_is : (text : List ℕ) (k : ℕ) → get_or (values_in text) k 0 ≡ get_or (numbers_in text) (1 + k) 0

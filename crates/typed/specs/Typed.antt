@@ -1,12 +1,13 @@
 -- A MATRIX TYPED AS NUMBERS. The first number of the text is n; then come either n*n numbers, the matrix row by row, or n(n-1)/2 numbers, its lower
 -- half without the diagonal: d(1,0), d(2,0), d(2,1), and so on. How many there are decides which.
-use Rattle.std.specs.Prelude.{ℕ, ◌+◌, ◌*◌, ◌-◌, ◌/◌, ◌%◌, ◌≤◌, ◌<◌, ◌≡◌, Bool, false, cond, ◌||◌, List, map, ltb, eqb, length, get_or, drop}
+use Rattle.std.specs.Prelude.{ℕ, ◌+◌, ◌*◌, ◌-◌, ◌/◌, ◌%◌, ◌≤◌, ◌<◌, ◌≡◌, Bool, false, cond, ◌||◌, List, map, Result, Ok, Err, ltb, eqb, length, get_or, drop}
 use Rattle.statement.specs.Lowest.{lowest}
 use Rattle.statement.specs.Tree.{numbers}
 use Rattle.statement.specs.Bytes.{to_bytes}
 use Rattle.numerals.specs.Numerals.{starts_in, numbers_in, wrong_at}
-use Rattle.typed.specs.declared.Typed.{Typed}
-use Rattle.typed.specs.declared.Typed.TheVariants.{Matrix, Strange, TooLarge, Taxa, Count, Room}
+use Rattle.numerals.specs.declared.Fault.TheVariants as wrong
+use Rattle.typed.specs.declared.Mistake.{Mistake}
+use Rattle.typed.specs.declared.Mistake.TheVariants.{Strange, TooLarge, Taxa, Count, Room}
 
 -- n, 0 where there is no number; and the numbers behind it
 abbrev pub taxa_typed : List ℕ → ℕ
@@ -36,48 +37,43 @@ entries_of n values = cond (is_full n values) values (map (mirrored n values) (n
 
 -- WHAT IS SAID OF A TEXT: what is wrong first, with its place in bytes from 0, else n. A text without a number lacks n at its end. Where the numbers
 -- are too few or too many the place is that of the first one too many for a full matrix, else the end
-unfoldable pub said_of : List ℕ → Typed
+unfoldable pub said_of : List ℕ → Result ℕ Mistake
 said_of text =
     let end = length text in
     let n = taxa_typed text in
     let found = length (values_in text) in
-    cond (ltb (lowest (wrong_at 1 text) end) end) (Strange (lowest (wrong_at 1 text) end))
-    (cond (ltb (lowest (wrong_at 2 text) end) end) (TooLarge (lowest (wrong_at 2 text) end))
-    (cond (ltb n 2 || ltb 64 n) (Taxa (get_or (starts_in text) 0 end))
-    (cond (eqb found (n * n) || eqb found (half n)) (Matrix n)
-    (Count n found (get_or (starts_in text) (1 + n * n) end)))))
-
--- the n of an accepted text, else 0
-abbrev pub taxa_of : Typed → ℕ
-taxa_of (Matrix n) = n
-taxa_of (Strange place) = 0
-taxa_of (TooLarge place) = 0
-taxa_of (Taxa place) = 0
-taxa_of (Count n found place) = 0
-taxa_of Room = 0
-
-abbrev pub accepted : List ℕ → ℕ
-accepted text = taxa_of (said_of text)
+    cond (ltb (lowest (wrong_at wrong.Strange text) end) end) (Err (Strange (lowest (wrong_at wrong.Strange text) end)))
+    (cond (ltb (lowest (wrong_at wrong.TooLarge text) end) end) (Err (TooLarge (lowest (wrong_at wrong.TooLarge text) end)))
+    (cond (ltb n 2 || ltb 64 n) (Err (Taxa (get_or (starts_in text) 0 end)))
+    (cond (eqb found (n * n) || eqb found (half n)) (Ok n)
+    (Err (Count n found (get_or (starts_in text) (1 + n * n) end))))))
 
 -- THE BODY of the matrix's record, written into a lent slice of its exact length: what is said, and what the slice then holds
-abbrev pub where_room : {A : Type 0} → ℕ → ℕ → A → A → A → A
-where_room n room refused no_room given = cond (eqb n 0) refused (cond (eqb room (4 * (n * n))) given no_room)
+abbrev pub with_room : ℕ → Result ℕ Mistake → Result ℕ Mistake
+with_room room (Ok n) = cond (eqb room (4 * (n * n))) (Ok n) (Err Room)
+with_room room (Err mistake) = Err mistake
 
-unfoldable pub body_said : List ℕ → List ℕ → Typed
-body_said text out = where_room (accepted text) (length out) (said_of text) Room (said_of text)
+unfoldable pub body_said : List ℕ → List ℕ → Result ℕ Mistake
+body_said text out = with_room (length out) (said_of text)
+
+abbrev pub written_as : List ℕ → List ℕ → Result ℕ Mistake → List ℕ
+written_as text out (Ok n) = to_bytes (entries_of n (values_in text))
+written_as text out (Err mistake) = out
 
 unfoldable pub body_written : List ℕ → List ℕ → List ℕ
-body_written text out = where_room (accepted text) (length out) out out (to_bytes (entries_of (accepted text) (values_in text)))
+body_written text out = written_as text out (body_said text out)
 
 -- THE PLACE of entry e in the text of an accepted matrix; the end where there is no such entry
+abbrev pub place_in : List ℕ → ℕ → Result ℕ Mistake → ℕ
+place_in text e (Ok n) = cond (ltb e (n * n)) (get_or (starts_in text) (1 + value_for n (is_full n (values_in text)) e) (length text)) (length text)
+place_in text e (Err mistake) = length text
+
 unfoldable pub entry_place : List ℕ → ℕ → ℕ
-entry_place text e =
-    let n = accepted text in
-    cond (ltb e (n * n)) (get_or (starts_in text) (1 + value_for n (is_full n (values_in text)) e) (length text)) (length text)
+entry_place text e = place_in text e (said_of text)
 
 -- no number of the text is too large
 abbrev pub Small : List ℕ → Type 0
-Small text = (p : ℕ) → p < length text → wrong_at 2 text p ≡ false
+Small text = (p : ℕ) → p < length text → wrong_at wrong.TooLarge text p ≡ false
 
 -- what an accepted text has
 pub record Taken (n : ℕ) (text : List ℕ) : Type 0 where

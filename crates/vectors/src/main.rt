@@ -3,38 +3,44 @@
 // The files in data/ and the expected output are made by tests/make_vectors.py from the documents alone.
 #![tactic(auto)]
 
-use statement::Step;
 use std::io;
 use std::rt::Files;
+use walker::Found;
 
-// What a walker says at a place; the place behind it, or 65,536 where it stops.
-fn step(rt: &impl Print, file: &[u8], place: usize) -> io::Result<usize> {
+// What a walker says at a place; the place behind a record, where it goes on.
+fn step(rt: &impl Print, file: &[u8], place: usize) -> io::Result<Option<usize>> {
     match walker::step_at(file, place) {
-        Step::End => {
-            print::say(rt, b"end\n")?;
-            Ok(65536)
+        Ok(
+            Some(
+                Found {
+                    start,
+                    length,
+                    behind,
+                },
+            ),
+        ) => {
+            println!(rt; "body at {start}, {length} bytes")?;
+            Ok(Some(behind))
         }
-        Step::Refused(number, at) => {
-            print::refusal(rt, number, at)?;
-            Ok(65536)
+        Ok(None) => {
+            println!(rt; "end")?;
+            Ok(None)
         }
-        Step::Found(start, length, next) => {
-            print::say(rt, b"body at ")?;
-            print::number(rt, start as u64)?;
-            print::say(rt, b", ")?;
-            print::number(rt, length as u64)?;
-            print::say(rt, b" bytes\n")?;
-            Ok(next)
+        Err(refused) => {
+            print::refusal(rt, refused)?;
+            Ok(None)
         }
     }
 }
 
+// Ten steps at most.
 fn steps(rt: &impl Print, file: &[u8]) -> io::Result<()> {
-    let mut place: usize = 0;
+    let mut place = 0;
     for _ in 0..10 {
-        if place < 65536 {
-            place = step(rt, file, place)?;
-        }
+        let Some(next) = step(rt, file, place)? else {
+            return Ok(());
+        };
+        place = next;
     }
     Ok(())
 }
@@ -45,54 +51,46 @@ fn from_newick(rt: &impl Print, file: &[u8]) -> io::Result<()> {
     let end = lines::find(file, 0, b'\n');
     let start = lines::behind(file, end);
     let n = numerals::number_at(file, 0);
-    let more = newick_hints::byte_before(file, end) == b'e';
+    let more = newick_hints::byte_before(file, end) == Some(b'e');
     let mut out = [0u8; 4096];
     let len = newick_in::answer(rt, n as usize, &file[start..], more, &mut out)?;
     if len > 0 {
-        return showing::describe(rt, &out[..len]);
-    }
-    Ok(())
-}
-
-// What is asked of a file's bytes.
-fn answer(rt: &impl Print, asked: u8, bytes: &[u8]) -> io::Result<()> {
-    if asked == b'v' {
-        print::growth(rt, job::run_record(bytes))
-    } else if asked == b't' {
-        packing::answer(rt, bytes)
-    } else if asked == b's' {
-        showing::describe(rt, bytes)
-    } else if asked == b'n' {
-        from_newick(rt, bytes)
-    } else if asked == b'o' {
-        newick_out::answer(rt, bytes)
+        showing::describe(rt, &out[..len])
     } else {
-        steps(rt, bytes)
+        Ok(())
     }
 }
 
-// File i of those that are asked the same: its name, and the answer.
-fn file(rt: &(impl Print + Files), asked: u8, i: u8) -> io::Result<()> {
-    let name = [asked, 48 + i / 10, 48 + i % 10];
-    print::say(rt, &name)?;
-    print::say(rt, b"\n")?;
+// The first files of a letter: the name of each, and the answer to its bytes.
+fn files<A: Fn(&[u8]) -> io::Result<()>>(
+    rt: &(impl Print + Files),
+    letter: u8,
+    count: u8,
+    answer: A,
+) -> io::Result<()>
+    requires { A.IsAlwaysCallable answer }
+{
     let mut bytes = [0u8; 65536];
-    let got = input::read_file(rt, &name, &mut bytes)?;
-    answer(rt, asked, &bytes[..got])
-}
-
-fn files(rt: &(impl Print + Files), asked: u8, count: u8) -> io::Result<()> {
     for i in 0..count {
-        file(rt, asked, i)?;
+        let name = [letter, b'0' + i / 10, b'0' + i % 10];
+        print::say(rt, &name)?;
+        println!(rt)?;
+        let got = input::read_file(rt, &name, &mut bytes)?;
+        answer(&bytes[..got])?;
     }
     Ok(())
 }
 
 fn main(rt: HostRuntime) -> io::Result<()> {
-    files(&rt, b'v', 39)?;
-    files(&rt, b'w', 3)?;
-    files(&rt, b't', 19)?;
-    files(&rt, b's', 20)?;
-    files(&rt, b'n', 48)?;
-    files(&rt, b'o', 20)
+    files(
+        &rt,
+        b'v',
+        39,
+        |bytes| print::growth(&rt, job::run_record(bytes)),
+    )?;
+    files(&rt, b'w', 3, |bytes| steps(&rt, bytes))?;
+    files(&rt, b't', 19, |bytes| packing::answer(&rt, bytes))?;
+    files(&rt, b's', 20, |bytes| showing::describe(&rt, bytes))?;
+    files(&rt, b'n', 48, |bytes| from_newick(&rt, bytes))?;
+    files(&rt, b'o', 20, |bytes| newick_out::answer(&rt, bytes))
 }

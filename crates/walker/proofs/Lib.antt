@@ -1,3 +1,3 @@
 -- The root of the proofs.
 pub mod Stepping
-mod Apart
+pub mod Apart

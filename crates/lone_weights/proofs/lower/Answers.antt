@@ -1,6 +1,6 @@
 -- `lone_weights::lower` meets its contract: one row decides.
 use native.Mathlib.Omega.{arith}
-use Rattle.statement.specs.Matrix.{distance}
+use Rattle.matrix.specs.Distances.{distances}
 use Rattle.lone_weights.proofs.Lowering.{row_most, lowered_none, lowered_row}
 use Rattle.lone_weights.proofs.lower.Goals as goal
 
@@ -13,4 +13,4 @@ overflow_add-row c = omega (arith, c.at.ensures.1, row_most c.row.ensures)
 pub returns : goal.returns
 returns c =
     let a = c.args in
-    lowered_row (distance a.n a.entries.now) a.v a.z a.m c.requires.4 c.at.ensures.1 c.row.ensures c.at.ensures.0 c.lowered_by.ensures
+    lowered_row (distances a.m.now) a.v a.z a.count c.requires.3 c.at.ensures.1 c.row.ensures c.at.ensures.0 c.lowered_by.ensures

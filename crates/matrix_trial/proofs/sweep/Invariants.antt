@@ -1,13 +1,12 @@
--- `matrix_trial::sweep` meets its contract: the weight is the least over the pairs of the taxa passed.
-use Prim.Native.Nat.{◌-◌, ◌≤◌}
+-- The weight is the least over the pairs of the taxa passed.
 use mathlib.Core.Path.{◌≡◌}
 use lib.ListN.{length}
-use Rattle.statement.specs.Matrix.{distance}
+use Rattle.matrix.specs.Distances.{distances}
 use Rattle.matrix_trial.specs.Separated.{Reached, Swept}
 use Rattle.matrix_trial.proofs.sweep.Given as goal
 
 abbrev pub invariant-loop-i : goal.invariant-loop-i
-invariant-loop-i l = (l.i ≤ l.count) × (length l.reaches ≡ 64) × Reached (distance l.n l.entries) l.k l.a l.c l.taxa l.reaches l.i × Swept (distance l.n l.entries) l.k l.a l.c l.taxa l.count l.w l.i l.best
-
-abbrev pub decreases-loop-i : goal.decreases-loop-i
-decreases-loop-i l = l.count - l.i
+invariant-loop-i l =
+    let s = l.seen in
+    (length l.reaches ≡ 64) × Reached (distances s.matrix) s.k s.a s.c l.others l.reaches l.i
+    × Swept (distances s.matrix) s.k s.a s.c l.others (length l.others) l.w l.i l.best

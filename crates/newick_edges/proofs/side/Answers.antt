@@ -5,7 +5,7 @@ use Rattle.newick_edges.proofs.Marking.{side_same, side_other}
 use Rattle.newick_edges.proofs.side.Goals as goal
 
 pub returns-then-below-eq0 : goal.returns-then-below-eq0
-returns-then-below-eq0 c = side_same _ _ c.if-below-eq0.true
+returns-then-below-eq0 c = side_same c.args.n c.args.below c.if-below-eq0.true
 
-pub returns : goal.returns
-returns c = c.less.ensures ∙ ap (λ (f : ℕ). f - c.args.below) c.full.ensures ∙ side_other c.args.n c.args.below c.if-below-eq0.false
+pub returns-else-below-eq0 : goal.returns-else-below-eq0
+returns-else-below-eq0 c = c.saturating_sub.ensures ∙ ap (λ (f : ℕ). f - c.args.below) c.full.ensures ∙ side_other c.args.n c.args.below c.if-below-eq0.false

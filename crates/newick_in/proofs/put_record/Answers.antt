@@ -6,7 +6,6 @@ use Rattle.newick_in.proofs.put_record.Goals as goal
 
 pub returns : goal.returns
 returns c =
-    let s = c in
-    let a = s.args in
+    let a = c.args in
     c.lay_out.ensures
-    ∙ ap (record_of 3 a.n) (c.write_tree.ensures.out_after ∙ body_written_law a.n a.list a.body.now s.requires.1)
+    ∙ ap (record_of 3 a.n) (c.write_tree.ensures.out_after ∙ body_written_law a.n a.list a.body.now c.requires.1)

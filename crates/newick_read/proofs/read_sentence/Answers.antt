@@ -1,73 +1,49 @@
 -- Each way out is a law of what the walk noted.
 use Prim.Native.Nat.{◌-◌, ◌^◌}
-use mathlib.Core.Path.{◌≡◌, sym, ◌∙◌}
-use Rattle.newick_walk.specs.Machine.{Walk, walk_in, begun}
-use Rattle.newick_walk.proofs.Steps.{begun_is}
-use Rattle.newick_walk.proofs.Turns.{walks_from}
-use Rattle.newick_reading.proofs.Ways.{Over, over, way20, way20', way14, way12, way13, way}
+use mathlib.Core.Path.{◌≡◌, sym, ◌∙◌, ap}
+use Rattle.std.specs.Prelude.{Err}
+use Rattle.statement.specs.declared.Refusal.{Refusal}
+use Rattle.statement.specs.Replies.{reading_said}
+use Rattle.newick_walk.specs.Machine.{walk_in}
+use Rattle.newick_reading.proofs.Ways.{over, way20, way20', way14, way12, way13, way}
 use Rattle.newick_read.proofs.read_sentence.Goals as goal
 
-pub returns-then-m-ne0 : goal.returns-then-m-ne0
-returns-then-m-ne0 c =
-    let k = c.walk_over-w.new in
-    let found : Walk = walk_in c.walk_over-w.result k.opened k.clusters k.weights k.places k.many in
-    let passed : (let a = c.args in Over a.n a.text.now found) =
-    over c.args.n c.args.text.now found c.requires.0 c.requires.1 c.requires.2
-    (walks_from c.args.n c.args.text.now _ begun found begun_is c.walk_over-w.ensures.walks) in
-    c.refused.ensures ∙ way20 c.args.n c.args.text.now found passed c.if-m-ne0.true
+pub returns-in-Some : goal.returns-in-Some
+returns-in-Some c =
+    let a = c.args in let w = walk_in c.walk_over-w.result in
+    let o = over a.n a.text.now w c.requires.0 c.requires.1 c.requires.2 c.walk_over-w.ensures in
+    ap (λ (r : Refusal). reading_said (Err r)) c.at.ensures ∙ way20 a.n a.text.now w o c.in-Some.place c.in-Some.is
 
-pub returns-then-m-full : goal.returns-then-m-full
-returns-then-m-full c =
-    let k = c.walk_over-w.new in
-    let found : Walk = walk_in c.walk_over-w.result k.opened k.clusters k.weights k.places k.many in
-    let passed : (let a = c.args in Over a.n a.text.now found) =
-    over c.args.n c.args.text.now found c.requires.0 c.requires.1 c.requires.2
-    (walks_from c.args.n c.args.text.now _ begun found begun_is c.walk_over-w.ensures.walks) in
-    c.refused-then-m-full.ensures ∙ way20' c.args.n c.args.text.now found passed c.if-m-ne0.false (λ z. c.if-m-full.true (z ∙ sym c.full.ensures))
+pub returns-then-w-full : goal.returns-then-w-full
+returns-then-w-full c =
+    let a = c.args in let w = walk_in c.walk_over-w.result in
+    let o = over a.n a.text.now w c.requires.0 c.requires.1 c.requires.2 c.walk_over-w.ensures in
+    ap (λ (r : Refusal). reading_said (Err r)) c.at-then-w-full.ensures ∙ way20' a.n a.text.now w o c.in_default.is (λ z. c.if-w-full.true (z ∙ sym c.full.ensures))
 
-pub returns-then-t-ne0 : goal.returns-then-t-ne0
-returns-then-t-ne0 c =
-    let k = c.walk_over-w.new in
-    let found : Walk = walk_in c.walk_over-w.result k.opened k.clusters k.weights k.places k.many in
-    let passed : (let a = c.args in Over a.n a.text.now found) =
-    over c.args.n c.args.text.now found c.requires.0 c.requires.1 c.requires.2
-    (walks_from c.args.n c.args.text.now _ begun found begun_is c.walk_over-w.ensures.walks) in
-    let all : c.walk_over-w.result.met.seen ≡ 2 ^ c.args.n - 1 =
-    c.if-m-full.false ∙ c.full.ensures in
-    c.refused-then-t-ne0.ensures ∙ way14 c.args.n c.args.text.now found passed c.if-m-ne0.false all c.if-t-ne0.true
+pub returns-in-Some-heavy : goal.returns-in-Some-heavy
+returns-in-Some-heavy c =
+    let a = c.args in let w = walk_in c.walk_over-w.result in
+    let o = over a.n a.text.now w c.requires.0 c.requires.1 c.requires.2 c.walk_over-w.ensures in
+    let all : w.met.seen ≡ 2 ^ a.n - 1 = c.if-w-full.false ∙ c.full.ensures in
+    ap (λ (r : Refusal). reading_said (Err r)) c.at-in-Some-heavy.ensures ∙ way14 a.n a.text.now w o c.in_default.is all c.in-Some-heavy.place c.in-Some-heavy.is
 
-pub returns-then-t-ne0-2 : goal.returns-then-t-ne0-2
-returns-then-t-ne0-2 c =
-    let k = c.walk_over-w.new in
-    let found : Walk = walk_in c.walk_over-w.result k.opened k.clusters k.weights k.places k.many in
-    let passed : (let a = c.args in Over a.n a.text.now found) =
-    over c.args.n c.args.text.now found c.requires.0 c.requires.1 c.requires.2
-    (walks_from c.args.n c.args.text.now _ begun found begun_is c.walk_over-w.ensures.walks) in
-    let all : c.walk_over-w.result.met.seen ≡ 2 ^ c.args.n - 1 =
-    c.if-m-full.false ∙ c.full.ensures in
-    c.refused-then-t-ne0-2.ensures ∙ way12 c.args.n c.args.text.now found passed c.if-m-ne0.false all c.if-t-ne0.false c.if-t-ne0-2.true
+pub returns-in-Some-bare : goal.returns-in-Some-bare
+returns-in-Some-bare c =
+    let a = c.args in let w = walk_in c.walk_over-w.result in
+    let o = over a.n a.text.now w c.requires.0 c.requires.1 c.requires.2 c.walk_over-w.ensures in
+    let all : w.met.seen ≡ 2 ^ a.n - 1 = c.if-w-full.false ∙ c.full.ensures in
+    ap (λ (r : Refusal). reading_said (Err r)) c.at-in-Some-bare.ensures ∙ way12 a.n a.text.now w o c.in_default.is all c.in_default-heavy.is c.in-Some-bare.place c.in-Some-bare.is
 
-pub returns-then-j-rows : goal.returns-then-j-rows
-returns-then-j-rows c =
-    let k = c.walk_over-w.new in
-    let found : Walk = walk_in c.walk_over-w.result k.opened k.clusters k.weights k.places k.many in
-    let passed : (let a = c.args in Over a.n a.text.now found) =
-    over c.args.n c.args.text.now found c.requires.0 c.requires.1 c.requires.2
-    (walks_from c.args.n c.args.text.now _ begun found begun_is c.walk_over-w.ensures.walks) in
-    let all : c.walk_over-w.result.met.seen ≡ 2 ^ c.args.n - 1 =
-    c.if-m-full.false ∙ c.full.ensures in
-    c.refused-then-j-rows.ensures ∙ way13 c.args.n c.args.text.now found passed c.if-m-ne0.false all c.if-t-ne0.false c.if-t-ne0-2.false c.first_many-j.result c.first_many-j.ensures c.if-j-rows.true
-
-pub sorted-requires : goal.sorted-requires
-sorted-requires c = c.walk_over-w.ensures.rows_bound
+pub returns-in-Some-twin : goal.returns-in-Some-twin
+returns-in-Some-twin c =
+    let a = c.args in let w = walk_in c.walk_over-w.result in
+    let o = over a.n a.text.now w c.requires.0 c.requires.1 c.requires.2 c.walk_over-w.ensures in
+    let all : w.met.seen ≡ 2 ^ a.n - 1 = c.if-w-full.false ∙ c.full.ensures in
+    ap (λ (r : Refusal). reading_said (Err r)) c.at-in-Some-twin.ensures ∙ way13 a.n a.text.now w o c.in_default.is all c.in_default-heavy.is c.in_default-bare.is c.in-Some-twin.place (sym c.in-Some-twin.ensures)
 
 pub returns : goal.returns
 returns c =
-    let k = c.walk_over-w.new in
-    let found : Walk = walk_in c.walk_over-w.result k.opened k.clusters k.weights k.places k.many in
-    let passed : (let a = c.args in Over a.n a.text.now found) =
-    over c.args.n c.args.text.now found c.requires.0 c.requires.1 c.requires.2
-    (walks_from c.args.n c.args.text.now _ begun found begun_is c.walk_over-w.ensures.walks) in
-    let all : c.walk_over-w.result.met.seen ≡ 2 ^ c.args.n - 1 =
-    c.if-m-full.false ∙ c.full.ensures in
-    way c.args.n c.args.text.now found passed c.if-m-ne0.false all c.if-t-ne0.false c.if-t-ne0-2.false c.first_many-j.result c.first_many-j.ensures c.sorted.result c.if-j-rows.false c.sorted.ensures
+    let a = c.args in let w = walk_in c.walk_over-w.result in
+    let o = over a.n a.text.now w c.requires.0 c.requires.1 c.requires.2 c.walk_over-w.ensures in
+    let all : w.met.seen ≡ 2 ^ a.n - 1 = c.if-w-full.false ∙ c.full.ensures in
+    way a.n a.text.now w o c.in_default.is all c.in_default-heavy.is c.in_default-bare.is c.sorted.result (sym c.in_default-twin.ensures) c.sorted.ensures

@@ -1,96 +1,62 @@
 -- `newick_text::child` and `inner` meet their contracts, each by the other with fewer brackets left or further on in the text.
-use Prim.Native.Nat.{ℕ, suc, ◌-◌, ◌≤◌, ◌<◌}
-use mathlib.Core.Path.{◌≡◌, refl, ap, ◌∙◌}
+use Rattle.std.proofs.Common.{unwrap_or}
+use borrow.Author.Rules.{rules}
+use Prim.Native.Nat.{ℕ, suc, ◌<◌}
+use mathlib.Core.Path.{◌≡◌, ap, ◌∙◌}
 use native.Mathlib.Omega.{arith}
 use lib.ListN.{length, drop, get_or}
-use Rattle.newick_text.specs.Automaton.{taxon, weight, want, over, close as shut, run, ran, place_of}
-use Rattle.newick_text.proofs.Laws.{goes, fails, ran_bad, ran_past, place_past, want_first, want_full, want_deeper, suc_pred, colon_over, colon_close, sep_close, sep_comma, sep_none, inside'}
+use Rattle.std.proofs.lemmas.Result.{err_from_is_err_and}
+use Rattle.newick_text.specs.Automaton.{taxon, weight, want, over, close as shut, run}
+use Rattle.newick_text.proofs.Laws.{goes, fails, no_other, another, want_first, want_full, want_deeper, suc_pred, colon_over, colon_close, sep_close, sep_comma, sep_none, inside'}
 use Rattle.newick_text.proofs.+child_inner.Goals as goal
 
-pub child-returns-then-c-ne40 : goal.child-returns-then-c-ne40
-child-returns-then-c-ne40 t c =
-    let a = c.args in let p = c.peek-c in let n = c.number-n in let k = c.tail in record {
-      by_index = λ d. n.ensures.q_value (want taxon (suc d) a.left) taxon (suc d) a.left (want_first (suc d) a.left (get_or a.t.now a.at 256) (λ e. c.if-c-ne40.true (p.ensures ∙ e))) ∙ k.ensures.k_value (over taxon (suc d) a.left) (suc d) a.left (colon_over (suc d) a.left);
-      onward = record { on = omega (arith, n.ensures.onward.on, k.ensures.k_bound.0); within = λ h. k.ensures.k_bound.1 (n.ensures.onward.within h) };
-    }
+pub child-returns-then-ne-clause-by_index : goal.child-returns-then-ne-clause-by_index
+child-returns-then-ne-clause-by_index t c d =
+    let a = c.args in
+    c.in_ok-p.ensures.q_value (want taxon (suc d) a.left) taxon (suc d) a.left (want_first (suc d) a.left (get_or a.t.now a.at 256) (λ e. another c.peek.result 40 (search rules) c.if-ne.ensures (c.peek.ensures ∙ e)))
+    ∙ c.tail.ensures.k_value (over taxon (suc d) a.left) (suc d) a.left (colon_over (suc d) a.left)
 
-pub child-returns-then-left-eq0 : goal.child-returns-then-left-eq0
-child-returns-then-left-eq0 t c =
-    let a = c.args in let p = c.peek-c in record {
-      by_index = λ d. fails a.t.now a.at (want taxon (suc d) a.left) p.result p.ensures (want_full (suc d) a.left p.result c.if-c-ne40.false c.if-left-eq0.true);
-      onward = record { on = omega arith; within = λ h. h };
-    }
+pub child-returns-then-left-eq0-clause-by_index : goal.child-returns-then-left-eq0-clause-by_index
+child-returns-then-left-eq0-clause-by_index t c d =
+    let a = c.args in let b = unwrap_or c.peek.result 256 in
+    fails a.t.now a.at (want taxon (suc d) a.left) b c.peek.ensures (want_full (suc d) a.left b (no_other c.peek.result 40 c.if-ne.ensures) c.if-left-eq0.true)
 
-pub child-overflow_add-at : goal.child-overflow_add-at
-child-overflow_add-at t c = omega (arith, inside' c.args.t.now c.args.at c.peek-c.result c.peek-c.ensures (omega arith))
+pub child-returns-in_err-p-2-clause-by_index : goal.child-returns-in_err-p-2-clause-by_index
+child-returns-in_err-p-2-clause-by_index t c d =
+    let a = c.args in let b = unwrap_or c.peek.result 256 in
+    let p = err_from_is_err_and c.from_residual-in_err-p-2.result c.from_residual-in_err-p-2.ensures.1 in
+    rw (p.1, p.2) (goes a.t.now a.at (want taxon (suc d) a.left) b c.peek.ensures (want_deeper (suc d) a.left b (no_other c.peek.result 40 c.if-ne.ensures) c.if-left-eq0.false)
+    ∙ c.in_err-p-2.ensures.by_index (suc d))
 
-pub child-inner-k-requires : goal.child-inner-k-requires
-child-inner-k-requires t c = (omega arith, tt)
+pub child-returns-clause-by_index : goal.child-returns-clause-by_index
+child-returns-clause-by_index t c d =
+    let a = c.args in let b = unwrap_or c.peek.result 256 in let z = c.if-left-eq0.false in
+    goes a.t.now a.at (want taxon (suc d) a.left) b c.peek.ensures (want_deeper (suc d) a.left b (no_other c.peek.result 40 c.if-ne.ensures) z)
+    ∙ c.in_ok-p-2.ensures.by_index (suc d) ∙ ap (λ (m : ℕ). run (drop c.in_ok-p-2.p a.t.now) (shut (suc d) m)) (suc_pred a.left z)
+    ∙ c.tail-2.ensures.k_value (shut (suc d) a.left) (suc d) a.left (colon_close d a.left)
 
-pub child-returns : goal.child-returns
-child-returns t c =
-    let a = c.args in let p = c.peek-c in let n = c.inner-k in let k = c.tail-2 in
-    let z = c.if-left-eq0.false in
-    let e : suc (a.left - 1) ≡ a.left = suc_pred a.left z in
-    let h : a.at < length a.t.now = inside' a.t.now a.at p.result p.ensures (omega arith) in
-    let w : place_of n.result ≤ length a.t.now = n.ensures.onward.within (omega arith) in record {
-      by_index = λ d. goes a.t.now a.at (want taxon (suc d) a.left) p.result p.ensures (want_deeper (suc d) a.left p.result c.if-c-ne40.false z) ∙ n.ensures.by_index (suc d) ∙ ap (λ (m : ℕ). ran a.t.now (shut (suc d) m) n.result) e ∙ k.ensures.k_value (shut (suc d) a.left) (suc d) a.left (colon_close d a.left);
-      onward = record { on = omega (arith, n.ensures.onward.on, k.ensures.k_bound.0); within = λ x. k.ensures.k_bound.1 w };
-    }
+pub inner-returns-in-Some-eq41-clause-by_index : goal.inner-returns-in-Some-eq41-clause-by_index
+inner-returns-in-Some-eq41-clause-by_index t c d =
+    let a = c.args in let b = unwrap_or c.peek.result 256 in let k : b ≡ c.in-Some-eq41.field-0 = cc in
+    c.loop-p.invariant.0 d ∙ c.in_ok-p.ensures.by_index d
+    ∙ goes a.t.now c.in_ok-p.p (over weight (suc d) a.left) b c.peek.ensures (sep_close d a.left b (omega arith))
 
-pub inner-loop-p-init : goal.inner-loop-p-init
-inner-loop-p-init t c = ((λ d. refl), (omega arith, λ h. h))
+pub inner-returns-in_default-clause-by_index : goal.inner-returns-in_default-clause-by_index
+inner-returns-in_default-clause-by_index t c d =
+    let a = c.args in let b = unwrap_or c.peek.result 256 in let k : b ≡ c.in_default.field-0 = cc in
+    c.loop-p.invariant.0 d ∙ c.in_ok-p.ensures.by_index d
+    ∙ fails a.t.now c.in_ok-p.p (over weight (suc d) a.left) b c.peek.ensures (sep_none (suc d) a.left b (λ e. omega arith) (λ e. omega arith))
 
-pub inner-child-k-requires : goal.inner-child-k-requires
-inner-child-k-requires t c = (omega arith, tt)
-
-pub inner-returns-in_default : goal.inner-returns-in_default
-inner-returns-in_default t c =
-    let a = c.args in let l = c.loop-p in let k = c.child-k in record {
-      by_index = λ d. l.invariant.0 d ∙ k.ensures.by_index d ∙ ran_bad a.t.now (over weight (suc d) a.left) (shut d (suc a.left)) k.result _ c.in_default.is;
-      onward = record { on = omega (arith, k.ensures.onward.on); within = λ x. k.ensures.onward.within (l.invariant.1.1 x) };
-    }
-
-pub inner-returns-then-c-eq41 : goal.inner-returns-then-c-eq41
-inner-returns-then-c-eq41 t c =
-    let a = c.args in let l = c.loop-p in let k = c.child-k in let g = c.in-Past in let q = c.peek-c in
-    let p : ℕ = g.p in
-    let e : place_of k.result ≡ p = place_past k.result p g.is in
-    let came : (d : ℕ) → run (drop a.at a.t.now) (want taxon (suc d) a.left) ≡ run (drop p a.t.now) (over weight (suc d) a.left) = λ d. l.invariant.0 d ∙ k.ensures.by_index d ∙ ran_past a.t.now (over weight (suc d) a.left) k.result p g.is in
-    let h : p < length a.t.now = inside' a.t.now p q.result q.ensures (omega arith) in
-    let o : l.i ≤ place_of k.result = k.ensures.onward.on in record {
-      by_index = λ d. came d ∙ goes a.t.now p (over weight (suc d) a.left) q.result q.ensures (sep_close d a.left q.result c.if-c-eq41.true);
-      onward = record { on = omega arith; within = λ x. omega arith };
-    }
-
-pub inner-returns-then-c-ne44 : goal.inner-returns-then-c-ne44
-inner-returns-then-c-ne44 t c =
-    let a = c.args in let l = c.loop-p in let k = c.child-k in let g = c.in-Past in let q = c.peek-c in
-    let p : ℕ = g.p in
-    let e : place_of k.result ≡ p = place_past k.result p g.is in
-    let came : (d : ℕ) → run (drop a.at a.t.now) (want taxon (suc d) a.left) ≡ run (drop p a.t.now) (over weight (suc d) a.left) = λ d. l.invariant.0 d ∙ k.ensures.by_index d ∙ ran_past a.t.now (over weight (suc d) a.left) k.result p g.is in
-    let o : l.i ≤ place_of k.result = k.ensures.onward.on in record {
-      by_index = λ d. came d ∙ fails a.t.now p (over weight (suc d) a.left) q.result q.ensures (sep_none (suc d) a.left q.result c.if-c-eq41.false c.if-c-ne44.true);
-      onward = record { on = omega arith; within = λ x. let w : place_of k.result ≤ length a.t.now = k.ensures.onward.within (l.invariant.1.1 x) in omega arith };
-    }
-
-pub inner-loop-p-smaller : goal.inner-loop-p-smaller
-inner-loop-p-smaller t c =
-    let a = c.args in let l = c.loop-p in let k = c.child-k in let g = c.in-Past in let q = c.peek-c in
-    let p : ℕ = g.p in
-    let e : place_of k.result ≡ p = place_past k.result p g.is in
-    let h : p < length a.t.now = inside' a.t.now p q.result q.ensures (omega arith) in
-    let o : l.i ≤ place_of k.result = k.ensures.onward.on in
-    omega arith
+pub inner-returns-in_default-2-clause-by_index : goal.inner-returns-in_default-2-clause-by_index
+inner-returns-in_default-2-clause-by_index t c d =
+    let a = c.args in let b = unwrap_or c.peek.result 256 in let k : b ≡ 256 = cc in
+    c.loop-p.invariant.0 d ∙ c.in_ok-p.ensures.by_index d
+    ∙ fails a.t.now c.in_ok-p.p (over weight (suc d) a.left) b c.peek.ensures (sep_none (suc d) a.left b (λ e. omega arith) (λ e. omega arith))
 
 pub inner-loop-p-preserved : goal.inner-loop-p-preserved
 inner-loop-p-preserved t c =
-    let a = c.args in let l = c.loop-p in let k = c.child-k in let g = c.in-Past in let q = c.peek-c in
-    let p : ℕ = g.p in
-    let e : place_of k.result ≡ p = place_past k.result p g.is in
-    let came : (d : ℕ) → run (drop a.at a.t.now) (want taxon (suc d) a.left) ≡ run (drop p a.t.now) (over weight (suc d) a.left) = λ d. l.invariant.0 d ∙ k.ensures.by_index d ∙ ran_past a.t.now (over weight (suc d) a.left) k.result p g.is in
-    let h : p < length a.t.now = inside' a.t.now p q.result q.ensures (omega arith) in
-    let o : l.i ≤ place_of k.result = k.ensures.onward.on in (
-      (λ d. came d ∙ goes a.t.now p (over weight (suc d) a.left) q.result q.ensures (sep_comma (suc d) a.left q.result c.if-c-ne44.false)),
-      (omega arith, λ x. omega arith),
+    let a = c.args in let k = c.in_ok-p in let b = unwrap_or c.peek.result 256 in let e : b ≡ c.in-Some-eq44.field-0 = cc in
+    let h : k.p < length a.t.now = inside' a.t.now k.p b c.peek.ensures (omega arith) in (
+      (λ d. c.loop-p.invariant.0 d ∙ k.ensures.by_index d ∙ goes a.t.now k.p (over weight (suc d) a.left) b c.peek.ensures (sep_comma (suc d) a.left b (omega arith))),
+      (omega (arith, k.ensures.onward.on), λ x. omega arith),
     )

@@ -5,8 +5,8 @@ use lib.ListN.{length, drop}
 use Rattle.newick_text.specs.Automaton.{Use, run, some}
 use Rattle.newick_text.proofs.digits.Given as goal
 
-abbrev pub invariant-loop-at : goal.invariant-loop-at
-invariant-loop-at now = ((u : Use) (d l : ℕ) → run (drop now.at now.t) (some u d l) ≡ run (drop now.i now.t) (some u d l)) × ((now.at ≤ now.i) × (now.at ≤ length now.t → now.i ≤ length now.t))
+abbrev pub invariant-loop-i : goal.invariant-loop-i
+invariant-loop-i l = ((u : Use) (d n : ℕ) → run (drop l.at l.t) (some u d n) ≡ run (drop l.i l.t) (some u d n)) × ((l.at ≤ l.i) × (l.at ≤ length l.t → l.i ≤ length l.t))
 
-abbrev pub decreases-loop-at : goal.decreases-loop-at
-decreases-loop-at l = length l.t - l.i
+abbrev pub decreases-loop-i : goal.decreases-loop-i
+decreases-loop-i l = length l.t - l.i

@@ -1,37 +1,31 @@
 -- `newick_text::number` meets its contract, by its first byte.
+use Rattle.std.proofs.Common.{◌≡◌, unwrap_or}
 use mathlib.Core.Path.{◌∙◌}
-use Prim.Native.Nat.{◌≤◌, ◌<◌}
 use native.Mathlib.Omega.{arith}
-use lib.ListN.{length}
-use Rattle.newick_text.proofs.Laws.{digit_low, digit_high, num_zero, num_none, num_some, inside'}
+use Rattle.newick_text.proofs.Laws.{num_zero, num_none, num_some, digit_yes, digit_low, digit_high}
 use Rattle.newick_text.proofs.number.Goals as goal
 
-pub overflow_add-result : goal.overflow_add-result
-overflow_add-result c = omega (arith, inside' c.args.t.now c.args.at c.peek-c.result c.peek-c.ensures (omega arith))
+pub returns-in-Some-eq48-clause-q_value : goal.returns-in-Some-eq48-clause-q_value
+returns-in-Some-eq48-clause-q_value c q u d l n =
+    let b = unwrap_or c.peek.result 256 in let k : b ≡ c.in-Some-eq48.field-0 = cc in
+    num_zero c.args.t.now c.args.at b c.peek.ensures q u d l n (omega arith)
 
-pub returns-then-c-eq48 : goal.returns-then-c-eq48
-returns-then-c-eq48 c =
-    let a = c.args in let p = c.peek-c in
-    let h : a.at < length a.t.now = inside' a.t.now a.at p.result p.ensures (omega arith) in
-    record { q_value = (λ q u d l n. num_zero a.t.now a.at p.result p.ensures q u d l n c.if-c-eq48.true); onward = record { on = omega arith; within = λ k. omega arith } }
+pub returns-in-Some-49-to-57-clause-q_value : goal.returns-in-Some-49-to-57-clause-q_value
+returns-in-Some-49-to-57-clause-q_value c q u d l n =
+    let b = unwrap_or c.peek.result 256 in let k : b ≡ c.in-Some-49-to-57.field-0 = cc in
+    num_some c.args.t.now c.args.at b c.peek.ensures q u d l n (λ e. omega arith) (digit_yes b (omega arith) (omega arith)) ∙ c.digits.ensures.l_value u d l
 
-pub returns-then-c-lt48 : goal.returns-then-c-lt48
-returns-then-c-lt48 c =
-    let a = c.args in let p = c.peek-c in
-    record { q_value = (λ q u d l n. num_none a.t.now a.at p.result p.ensures q u d l n c.if-c-eq48.false (digit_low p.result c.if-c-lt48.true)); onward = record { on = omega arith; within = λ k. k } }
+pub returns-in_default-clause-q_value : goal.returns-in_default-clause-q_value
+returns-in_default-clause-q_value c q u d l n =
+    let b = unwrap_or c.peek.result 256 in let k : b ≡ c.in_default.field-0 = cc in
+    num_none c.args.t.now c.args.at b c.peek.ensures q u d l n (λ e. omega arith) (digit_low b (omega arith))
 
-pub returns-then-c-ge58 : goal.returns-then-c-ge58
-returns-then-c-ge58 c =
-    let a = c.args in let p = c.peek-c in
-    record { q_value = (λ q u d l n. num_none a.t.now a.at p.result p.ensures q u d l n c.if-c-eq48.false (digit_high p.result c.if-c-ge58.true)); onward = record { on = omega arith; within = λ k. k } }
+pub returns-in_default-2-clause-q_value : goal.returns-in_default-2-clause-q_value
+returns-in_default-2-clause-q_value c q u d l n =
+    let b = unwrap_or c.peek.result 256 in let k : b ≡ c.in_default.field-0 = cc in
+    num_none c.args.t.now c.args.at b c.peek.ensures q u d l n (λ e. omega arith) (digit_high b (omega arith))
 
-pub overflow_add-at : goal.overflow_add-at
-overflow_add-at c = omega (arith, inside' c.args.t.now c.args.at c.peek-c.result c.peek-c.ensures (omega arith))
-
-pub returns : goal.returns
-returns c =
-    let a = c.args in let p = c.peek-c in
-    let g : 48 ≤ p.result = omega arith in let k : p.result < 58 = omega arith in
-    let h : a.at < length a.t.now = inside' a.t.now a.at p.result p.ensures (omega arith) in
-    let w : c.digits-e.result ≤ length a.t.now = c.digits-e.ensures.lower_bound.1 (omega arith) in
-    record { q_value = (λ q u d l n. num_some a.t.now a.at p.result p.ensures q u d l n c.if-c-eq48.false g k ∙ c.digits-e.ensures.l_value u d l); onward = record { on = omega arith; within = λ k. w } }
+pub returns-in_default-3-clause-q_value : goal.returns-in_default-3-clause-q_value
+returns-in_default-3-clause-q_value c q u d l n =
+    let b = unwrap_or c.peek.result 256 in let k : b ≡ 256 = cc in
+    num_none c.args.t.now c.args.at b c.peek.ensures q u d l n (λ e. omega arith) (digit_high b (omega arith))

@@ -1,48 +1,94 @@
--- What is left of the tokens; each turn takes one.
+-- Each byte that begins a token, and its token; any other ends the walk.
+use Rattle.std.proofs.Common.{◌≡◌, unwrap_or}
+use mathlib.Core.Path.{◌∙◌, ap}
 use native.Mathlib.Omega.{arith}
-use mathlib.Core.Path.{sym, ◌∙◌}
-use Rattle.newick_walk.specs.Machine.{walk_in, start_spot}
-use Rattle.newick_walk.proofs.Steps.{inside_of}
-use Rattle.newick_walk.proofs.Turns.{going_begun, going_on, going_ended}
+use Rattle.newick_text.proofs.Laws.{digit_yes, digit_low, digit_high}
+use Rattle.newick_walk.specs.Machine.{Walk, walk_in, begun}
+use Rattle.newick_walk.proofs.Steps.{begun_zero, stops_other}
+use Rattle.newick_walk.proofs.Turns.{going_from, going_ended, step_open, step_close, step_comma, step_weight, step_leaf}
 use Rattle.newick_walk.proofs.walk_over.Goals as goal
 
 pub loop-w-init : goal.loop-w-init
-loop-w-init c = (going_begun c.args.n c.args.t.now ((let a = c.args in walk_in start_spot a.opened.now a.clusters.now a.weights.now a.places.now a.many.now)), omega arith, omega arith, omega arith)
+loop-w-init c =
+    let a = c.args in let w = walk_in c.new-w.result in let e = c.new-w.ensures in
+    let at : w.at ≡ 0 = ap (λ (v : Walk). v.at) e ∙ begun_zero.0 in let depth : w.depth ≡ 0 = ap (λ (v : Walk). v.depth) e ∙ begun_zero.1 in
+    (going_from a.n a.t.now begun w e, omega arith, omega arith)
 
-pub peek-c-requires : goal.peek-c-requires
-peek-c-requires c = tt
+pub loop-w-preserved-in-40-1 : goal.loop-w-preserved-in-40-1
+loop-w-preserved-in-40-1 c =
+    let a = c.args in let l = c.loop-w in let w = walk_in l.w in let b = unwrap_or c.peek.result 256 in let k : b ≡ c.in-Some-eq40.field-0 = cc in
+    let s = step_open a.n a.t.now begun w (walk_in c.open.new.self) b c.requires l.w.table.room c.peek.ensures l.invariant.0 l.invariant.1 (omega arith) c.open.ensures in
+    (s.going, s.shallow, s.within)
 
-pub stops-requires : goal.stops-requires
-stops-requires c = tt
+pub loop-w-smaller-in-40-1 : goal.loop-w-smaller-in-40-1
+loop-w-smaller-in-40-1 c =
+    let a = c.args in let l = c.loop-w in let w = walk_in l.w in let b = unwrap_or c.peek.result 256 in let k : b ≡ c.in-Some-eq40.field-0 = cc in
+    let s = step_open a.n a.t.now begun w (walk_in c.open.new.self) b c.requires l.w.table.room c.peek.ensures l.invariant.0 l.invariant.1 (omega arith) c.open.ensures in
+    omega (arith, s.on, s.within)
 
-pub returns-then-stops : goal.returns-then-stops
-returns-then-stops c =
-    let a = c.args in
-    let f = c.loop-w in
-    let w = walk_in f.w f.opened f.clusters f.weights f.places f.many in
-    record { walks = going_ended a.n a.t.now ((let a = c.args in walk_in start_spot a.opened.now a.clusters.now a.weights.now a.places.now a.many.now)) w c.peek-c.result c.peek-c.ensures c.loop-w.invariant.0 (sym c.stops.ensures ∙ c.if-stops.true); rows_bound = c.loop-w.invariant.3 }
+pub loop-w-preserved-in-41-1 : goal.loop-w-preserved-in-41-1
+loop-w-preserved-in-41-1 c =
+    let a = c.args in let l = c.loop-w in let w = walk_in l.w in let b = unwrap_or c.peek.result 256 in let k : b ≡ c.in-Some-eq41.field-0 = cc in
+    let s = step_close a.n a.t.now begun w (walk_in c.close.new.self) b c.requires l.w.table.room c.peek.ensures l.invariant.0 l.invariant.1 (omega arith) c.close.ensures in
+    (s.going, s.shallow, s.within)
 
-pub turn-next-requires : goal.turn-next-requires
-turn-next-requires c =
-    let t = sym c.stops.ensures ∙ c.if-stops.false in
-    record {
-      taxa = c.requires;
-      inside = inside_of c.args.t.now c.loop-w.w.at c.peek-c.result c.peek-c.ensures t;
-      shallow = c.loop-w.invariant.1;
-      few = c.loop-w.invariant.3;
-      byte = c.peek-c.ensures;
-      token = t;
-    }
+pub loop-w-smaller-in-41-1 : goal.loop-w-smaller-in-41-1
+loop-w-smaller-in-41-1 c =
+    let a = c.args in let l = c.loop-w in let w = walk_in l.w in let b = unwrap_or c.peek.result 256 in let k : b ≡ c.in-Some-eq41.field-0 = cc in
+    let s = step_close a.n a.t.now begun w (walk_in c.close.new.self) b c.requires l.w.table.room c.peek.ensures l.invariant.0 l.invariant.1 (omega arith) c.close.ensures in
+    omega (arith, s.on, s.within)
 
-pub loop-w-smaller : goal.loop-w-smaller
-loop-w-smaller c = let o = c.turn-next.ensures.onward in omega (arith, o.on, o.within)
+pub loop-w-preserved-in-44-1 : goal.loop-w-preserved-in-44-1
+loop-w-preserved-in-44-1 c =
+    let a = c.args in let l = c.loop-w in let w = walk_in l.w in let b = unwrap_or c.peek.result 256 in let k : b ≡ c.in-Some-eq44.field-0 = cc in
+    let s = step_comma a.n a.t.now begun w (walk_in c.pass.new.self) b c.requires l.w.table.room c.peek.ensures l.invariant.0 l.invariant.1 (omega arith) c.pass.ensures in
+    (s.going, s.shallow, s.within)
+
+pub loop-w-smaller-in-44-1 : goal.loop-w-smaller-in-44-1
+loop-w-smaller-in-44-1 c =
+    let a = c.args in let l = c.loop-w in let w = walk_in l.w in let b = unwrap_or c.peek.result 256 in let k : b ≡ c.in-Some-eq44.field-0 = cc in
+    let s = step_comma a.n a.t.now begun w (walk_in c.pass.new.self) b c.requires l.w.table.room c.peek.ensures l.invariant.0 l.invariant.1 (omega arith) c.pass.ensures in
+    omega (arith, s.on, s.within)
+
+pub loop-w-preserved-in-58-1 : goal.loop-w-preserved-in-58-1
+loop-w-preserved-in-58-1 c =
+    let a = c.args in let l = c.loop-w in let w = walk_in l.w in let b = unwrap_or c.peek.result 256 in let k : b ≡ c.in-Some-eq58.field-0 = cc in
+    let x = c.number-x in
+    let s = step_weight a.n a.t.now begun w (walk_in c.weigh.new.self) b c.requires l.w.table.room c.peek.ensures l.invariant.0 l.invariant.1 x.result.0 x.result.1 (omega arith) x.ensures.0 x.ensures.1 c.weigh.ensures c.weigh.new.self.table.room in
+    (s.going, s.shallow, s.within)
+
+pub loop-w-smaller-in-58-1 : goal.loop-w-smaller-in-58-1
+loop-w-smaller-in-58-1 c =
+    let a = c.args in let l = c.loop-w in let w = walk_in l.w in let b = unwrap_or c.peek.result 256 in let k : b ≡ c.in-Some-eq58.field-0 = cc in
+    let x = c.number-x in
+    let s = step_weight a.n a.t.now begun w (walk_in c.weigh.new.self) b c.requires l.w.table.room c.peek.ensures l.invariant.0 l.invariant.1 x.result.0 x.result.1 (omega arith) x.ensures.0 x.ensures.1 c.weigh.ensures c.weigh.new.self.table.room in
+    omega (arith, s.on, s.within)
 
 pub loop-w-preserved : goal.loop-w-preserved
 loop-w-preserved c =
-    let a = c.args in
-    let f = c.loop-w in
-    let w = walk_in f.w f.opened f.clusters f.weights f.places f.many in
-    let k = c.turn-next.new in
-    let r = walk_in c.turn-next.result k.opened k.clusters k.weights k.places k.many in
-    let o = c.turn-next.ensures.onward in
-    (going_on a.n a.t.now ((let a = c.args in walk_in start_spot a.opened.now a.clusters.now a.weights.now a.places.now a.many.now)) w c.peek-c.result c.peek-c.ensures c.loop-w.invariant.0 r (sym c.stops.ensures ∙ c.if-stops.false) c.turn-next.ensures.turned, o.shallow, o.within, o.few)
+    let a = c.args in let l = c.loop-w in let w = walk_in l.w in let b = unwrap_or c.peek.result 256 in let k : b ≡ c.in-Some-48-to-57.field-0 = cc in
+    let x = c.number-x-in-Some-48-to-57 in
+    let s = step_leaf a.n a.t.now begun w (walk_in c.leaf.new.self) b c.requires l.w.table.room c.peek.ensures l.invariant.0 l.invariant.1 x.result.0 x.result.1 (digit_yes b (omega arith) (omega arith)) x.ensures.0 x.ensures.1 c.leaf.ensures in
+    (s.going, s.shallow, s.within)
+
+pub loop-w-smaller : goal.loop-w-smaller
+loop-w-smaller c =
+    let a = c.args in let l = c.loop-w in let w = walk_in l.w in let b = unwrap_or c.peek.result 256 in let k : b ≡ c.in-Some-48-to-57.field-0 = cc in
+    let x = c.number-x-in-Some-48-to-57 in
+    let s = step_leaf a.n a.t.now begun w (walk_in c.leaf.new.self) b c.requires l.w.table.room c.peek.ensures l.invariant.0 l.invariant.1 x.result.0 x.result.1 (digit_yes b (omega arith) (omega arith)) x.ensures.0 x.ensures.1 c.leaf.ensures in
+    omega (arith, s.on, s.within)
+
+pub returns-in_default : goal.returns-in_default
+returns-in_default c =
+    let a = c.args in let l = c.loop-w in let b = unwrap_or c.peek.result 256 in let k : b ≡ c.in_default.field-0 = cc in
+    going_ended a.n a.t.now begun (walk_in l.w) b c.peek.ensures l.invariant.0 (stops_other b (digit_low b (omega arith)) (λ e. omega arith) (λ e. omega arith) (λ e. omega arith) (λ e. omega arith))
+
+pub returns-in_default-2 : goal.returns-in_default-2
+returns-in_default-2 c =
+    let a = c.args in let l = c.loop-w in let b = unwrap_or c.peek.result 256 in let k : b ≡ c.in_default.field-0 = cc in
+    going_ended a.n a.t.now begun (walk_in l.w) b c.peek.ensures l.invariant.0 (stops_other b (digit_high b (omega arith)) (λ e. omega arith) (λ e. omega arith) (λ e. omega arith) (λ e. omega arith))
+
+pub returns-in_default-3 : goal.returns-in_default-3
+returns-in_default-3 c =
+    let a = c.args in let l = c.loop-w in let b = unwrap_or c.peek.result 256 in let k : b ≡ 256 = cc in
+    going_ended a.n a.t.now begun (walk_in l.w) b c.peek.ensures l.invariant.0 (stops_other b (digit_high b (omega arith)) (λ e. omega arith) (λ e. omega arith) (λ e. omega arith) (λ e. omega arith))

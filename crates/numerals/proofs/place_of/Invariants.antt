@@ -1,10 +1,6 @@
--- `numerals::place_of` meets its contract. The loop has the place of byte i.
-use Prim.Native.Nat.{◌-◌}
+-- `numerals::place_of` meets its contract. The loop has the place of the byte at its index.
 use Rattle.numerals.proofs.Laws.{Passed}
 use Rattle.numerals.proofs.place_of.Given as goal
 
-abbrev pub invariant-loop-i : goal.invariant-loop-i
-invariant-loop-i l = Passed l.text l.p l.i l.here
-
-abbrev pub decreases-loop-i : goal.decreases-loop-i
-decreases-loop-i l = l.p - l.i
+abbrev pub invariant-loop-b : goal.invariant-loop-b
+invariant-loop-b l = Passed l.text l.p l.b-index l.here

@@ -8,8 +8,8 @@ use Rattle.numerals.specs.Numerals.{number_at}
 use Rattle.numerals.proofs.Laws.{too_large}
 use Rattle.numerals.proofs.read_number.Given as goal
 
-abbrev pub invariant-loop-i : goal.invariant-loop-i
-invariant-loop-i l = (l.v ≤ too_large) × (min (on_from l.v (drop l.i l.text)) too_large ≡ min (number_at l.text l.p) too_large) × (l.i + span (drop l.i l.text) ≡ l.p + span (drop l.p l.text))
+abbrev pub invariant-loop-behind : goal.invariant-loop-behind
+invariant-loop-behind l = (l.value ≤ too_large) × (min (on_from l.value (drop l.behind l.text)) too_large ≡ min (number_at l.text l.p) too_large) × (l.behind + span (drop l.behind l.text) ≡ l.p + span (drop l.p l.text))
 
-abbrev pub decreases-loop-i : goal.decreases-loop-i
-decreases-loop-i l = length l.text - l.i
+abbrev pub decreases-loop-behind : goal.decreases-loop-behind
+decreases-loop-behind l = length l.text - l.behind

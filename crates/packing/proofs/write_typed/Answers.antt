@@ -1,18 +1,25 @@
 -- `packing::write_typed` meets its contract: the body is that of the typed matrix.
-use native.Mathlib.Omega.{arith}
-use mathlib.Core.Path.{refl, sym, ◌∙◌, ap}
-use mathlib.Core.List.{List}
 use Prim.Native.Nat.{ℕ}
+use mathlib.Core.Path.{sym, ◌∙◌, ap₂}
+use mathlib.Core.List.{List}
+use Rattle.std.proofs.Common.{rules}
 use Rattle.statement.specs.Calls.{write_record, record_written}
-use Rattle.typed.specs.declared.Typed.TheVariants.{Matrix}
-use Rattle.typed.proofs.Texts.{matrix_taken}
 use Rattle.typed.proofs.Body.{written}
 use Rattle.packing.proofs.write_typed.Goals as goal
 
-pub returns : goal.returns
-returns c =
-    let s = c in
-    let text = s.args.text.now in
-    let n = s.args.n in
-    let some = (matrix_taken text n s.requires.0).two in
-    let e = c.write_body.ensures.out_after ∙ sym (written text (Matrix n) n s.requires.0 refl s.args.body.now (λ z. omega arith) s.requires.1).1 in record { value = c.write_record.ensures.reply ∙ ap (λ (b : List ℕ). write_record 1 n b s.args.out.now) e; out_after = c.write_record.ensures.contents ∙ ap (λ (b : List ℕ). record_written 1 n b s.args.out.now) e }
+pub unwrap-requires : goal.unwrap-requires
+unwrap-requires c =
+    let a = c.args in
+    rw (c.write_body.ensures.value ∙ sym (written a.text.now a.body.now a.n c.requires.0 c.requires.1).0) (search rules)
+
+pub returns-clause-value : goal.returns-clause-value
+returns-clause-value c =
+    let a = c.args in
+    c.write_record.ensures.reply ∙ ap₂ (λ (k : ℕ) (b : List ℕ). write_record k a.n b a.out.now) c.code.ensures
+    (c.write_body.ensures.out_after ∙ sym (written a.text.now a.body.now a.n c.requires.0 c.requires.1).1)
+
+pub returns-clause-out_after : goal.returns-clause-out_after
+returns-clause-out_after c =
+    let a = c.args in
+    c.write_record.ensures.contents ∙ ap₂ (λ (k : ℕ) (b : List ℕ). record_written k a.n b a.out.now) c.code.ensures
+    (c.write_body.ensures.out_after ∙ sym (written a.text.now a.body.now a.n c.requires.0 c.requires.1).1)

@@ -1,30 +1,38 @@
--- `record_write::write_record` meets its contract, by the kind.
-use Rattle.std.proofs.Common.{refl, ap, ◌∙◌}
-use Rattle.statement.specs.declared.Reading.{Reading}
-use Rattle.record_write.proofs.Replies.{said_of, read_said, unknown}
+-- `record_write::write_record` meets its contract: refused by the input, refused for the slice, or written.
+use Rattle.std.proofs.Common.{◌≤◌, arith}
+use Rattle.std.proofs.lemmas.Bool.Decides.{nat_tests}
+use Rattle.statement.specs.Said.{code_of_kind}
+use Rattle.statement.specs.Calls.{record_written}
+use Rattle.record_write.proofs.Replies.{writing_in_order, few}
 use Rattle.record_write.proofs.write_record.Goals as goal
 
-pub write_checked-requires : goal.write_checked-requires
-write_checked-requires c = said_of _ 1 _ _ _ c.if-kind-eq1.true refl c.check_matrix.ensures
+pub returns-in_err-kind-clause-reply : goal.returns-in_err-kind-clause-reply
+returns-in_err-kind-clause-reply c = rw writing_in_order (grind (arith, nat_tests))
 
-pub returns-then-kind-eq1 : goal.returns-then-kind-eq1
-returns-then-kind-eq1 c = c.write_checked.ensures
+pub returns-in_err-kind-clause-contents : goal.returns-in_err-kind-clause-contents
+unfolding record_written
+returns-in_err-kind-clause-contents c = rw (← returns-in_err-kind-clause-reply c) (grind (arith, nat_tests))
 
-pub write_checked-requires-then-kind-eq2 : goal.write_checked-requires-then-kind-eq2
-write_checked-requires-then-kind-eq2 c = said_of _ 2 _ _ _ c.if-kind-eq2.true refl c.check.ensures
+pub returns-in_err-check-clause-reply : goal.returns-in_err-check-clause-reply
+returns-in_err-check-clause-reply c = rw writing_in_order (grind (arith, nat_tests))
 
-pub returns-then-kind-eq2 : goal.returns-then-kind-eq2
-returns-then-kind-eq2 c = c.write_checked-then-kind-eq2.ensures
+pub returns-in_err-check-clause-contents : goal.returns-in_err-check-clause-contents
+unfolding record_written
+returns-in_err-check-clause-contents c = rw (← returns-in_err-check-clause-reply c) (grind (arith, nat_tests))
 
-pub write_checked-requires-then-kind-eq3 : goal.write_checked-requires-then-kind-eq3
-write_checked-requires-then-kind-eq3 c =
-    said_of _ 3 _ _ _ c.if-kind-eq3.true refl (ap (λ (r : Reading). r.outcome) c.read_tree-read.ensures ∙ read_said _ _)
+pub returns-then-out-record_length-clause-reply : goal.returns-then-out-record_length-clause-reply
+returns-then-out-record_length-clause-reply c = rw writing_in_order (grind (arith, nat_tests))
 
-pub returns-then-kind-eq3 : goal.returns-then-kind-eq3
-returns-then-kind-eq3 c = c.write_checked-then-kind-eq3.ensures
+pub returns-then-out-record_length-clause-contents : goal.returns-then-out-record_length-clause-contents
+unfolding record_written
+returns-then-out-record_length-clause-contents c = rw (← returns-then-out-record_length-clause-reply c) (grind (arith, nat_tests))
 
-pub returns : goal.returns
-returns c =
-    let a = c.args in
-    let told = unknown a.kind a.n a.body.now a.out.now c.if-kind-eq1.false c.if-kind-eq2.false c.if-kind-eq3.false in
-    record { reply = told.0; contents = told.1 }
+pub overflow_cast-n : goal.overflow_cast-n
+overflow_cast-n c = let limit : c.args.n ≤ 64 = few (code_of_kind c.in_ok-kind.kind) c.args.n c.args.body.now c.in_ok-check.ensures in omega arith
+
+pub returns-clause-reply : goal.returns-clause-reply
+returns-clause-reply c = rw writing_in_order (grind (arith, nat_tests))
+
+pub returns-clause-contents : goal.returns-clause-contents
+unfolding record_written
+returns-clause-contents c = rw (← returns-clause-reply c) (grind (arith, nat_tests))

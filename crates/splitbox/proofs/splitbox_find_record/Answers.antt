@@ -3,7 +3,4 @@ use Rattle.splitbox.proofs.Places.{finding_fits}
 use Rattle.splitbox.proofs.splitbox_find_record.Goals as goal
 
 pub reply-requires : goal.reply-requires
-reply-requires c = rw c.find_record.ensures (finding_fits _)
-
-pub returns : goal.returns
-returns c = rw c.find_record.ensures at c.reply.ensures
+reply-requires c = rw c.find_record.ensures.said (finding_fits _)

@@ -6,7 +6,4 @@ use Rattle.splitbox.proofs.splitbox_find_taken.Goals as goal
 pub reply-requires : goal.reply-requires
 reply-requires c =
     let a = c.args in
-    rw c.find_taken.ensures (taken_fits (kinds_taken (record { matrices = a.matrices; tables = a.tables; trees = a.trees })) a.bytes.now)
-
-pub returns : goal.returns
-returns c = rw c.find_taken.ensures at c.reply.ensures
+    rw c.find_taken.ensures.said (taken_fits (kinds_taken (record { matrices = a.matrices; tables = a.tables; trees = a.trees })) a.bytes.now)

@@ -1,14 +1,7 @@
 -- The reply and the lent places are those of growth on a matrix.
 use Rattle.splitbox.proofs.Places.{matrix_growth_fits}
-use mathlib.Core.Path.{◌∙◌, ap}
-use Rattle.statement.specs.declared.Splits.{Splits}
-use Rattle.statement.specs.Calls.{grow_matrix}
+use Rattle.splitbox.proofs.Back.{growth_shares}
 use Rattle.splitbox.proofs.splitbox_grow_matrix.Goals as goal
 
 pub hand_back-requires : goal.hand_back-requires
-hand_back-requires c = rw c.grow_matrix.ensures (matrix_growth_fits _ _ _ _)
-
-pub returns : goal.returns
-returns c =
-    let a = c.args in
-    rw (c.grow_matrix.ensures ∙ ap (λ (s : Splits). grow_matrix a.n a.entries.now s a.allowance) c.given-s.ensures) at c.hand_back.ensures
+hand_back-requires c = growth_shares c.given-s.result c.grow_matrix.result (rw c.grow_matrix.ensures (matrix_growth_fits _ _ _ _))

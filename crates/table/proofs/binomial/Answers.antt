@@ -2,7 +2,7 @@
 use Prim.Native.Nat.{◌*◌, ◌-◌, ◌^◌, ◌≤◌}
 use native.Mathlib.Numerals.{add-one}
 use native.Mathlib.Omega.{arith}
-use mathlib.Core.Path.{◌≡◌, refl, sym}
+use mathlib.Core.Path.{refl, sym}
 use Rattle.statement.specs.Table.{choose}
 use Rattle.table.proofs.Choose.{choose_none, choose_next, choose_fits}
 use Rattle.table.proofs.binomial.Goals as goal
@@ -12,19 +12,14 @@ returns-then-p-q c = sym (choose_none c.args.p c.args.q (omega arith))
 
 pub loop-i-init : goal.loop-i-init
 unfolding choose
-loop-i-init c = (omega arith, refl)
+loop-i-init c = refl
 
 pub overflow_mul-r : goal.overflow_mul-r
 overflow_mul-r c =
     let p = c.args.p in
     let l = c.loop-i in
-    let f : l.r * (p - l.i) ≤ 64 ^ 5 = rw l.invariant.1 (choose_fits p l.i (omega arith) (omega arith)) in
+    let f : l.r * (p - l.i) ≤ 64 ^ 5 = rw l.invariant (choose_fits p l.i (omega arith) (omega arith)) in
     omega arith
 
 pub loop-i-preserved : goal.loop-i-preserved
-loop-i-preserved c =
-    let l = c.loop-i in
-    (omega arith, rw (l.invariant.1, add-one) (choose_next c.args.p l.i))
-
-pub returns : goal.returns
-returns c = let e : c.loop-i.i ≡ c.args.q = omega arith in rw e at c.loop-i.invariant.1
+loop-i-preserved c = let l = c.loop-i in rw (l.invariant, add-one) (choose_next c.args.p l.i)

@@ -1,6 +1,6 @@
--- The places of the walk before step s are not the root.
-use Prim.Native.Nat.{suc}
+-- The places of the walk before this step are not the root.
 use native.Mathlib.Omega.{arith}
+use Prim.Native.Nat.{suc}
 use mathlib.Core.Path.{refl, sym, ◌∙◌}
 use lib.Dec.{eqb}
 use lib.ListN.{length}
@@ -12,28 +12,28 @@ use Rattle.tree_check.specs.Parts.{linked}
 use Rattle.tree_check.proofs.Walked.{walk_next}
 use Rattle.tree_check.proofs.reaches.Goals as goal
 
-pub loop-s-init : goal.loop-s-init
+pub loop-init : goal.loop-init
 unfolding walk
-loop-s-init c = (omega arith, refl, below_none _)
+loop-init c = (refl, below_none _)
 
 pub returns-then-at-m : goal.returns-then-at-m
 returns-then-at-m c =
     let a = c.args in
     let links = a.links.now in
-    sym (some_at (λ s. eqb (walk (linked links) s a.v) (length links)) (suc (length links)) c.loop-s.s (omega arith)
-    (eq-eqb _ _ (sym c.loop-s.invariant.1 ∙ c.if-at-m.true)))
+    sym (some_at (λ s. eqb (walk (linked links) s a.v) (length links)) (suc (length links)) c.loop.counter (omega arith)
+    (eq-eqb _ _ (sym c.loop.invariant.0 ∙ c.if-at-m.true)))
 
-pub loop-s-preserved : goal.loop-s-preserved
-loop-s-preserved c =
+pub loop-preserved : goal.loop-preserved
+loop-preserved c =
     let a = c.args in
-    let at = c.loop-s.invariant.1 in (
-      omega arith,
-      walk_next (linked a.links.now) c.loop-s.s a.v c.loop-s.at _ at c.step_up-at.ensures,
-      below_more _ _ c.loop-s.invariant.2 (ne_eqb _ _ (λ e. c.if-at-m.false (at ∙ e))),
+    let at = c.loop.invariant.0 in (
+      walk_next (linked a.links.now) c.loop.counter a.v c.loop.at _ at c.step_up-at.ensures,
+      below_more _ _ c.loop.invariant.1 (ne_eqb _ _ (λ e. c.if-at-m.false (at ∙ e))),
     )
 
-pub returns : goal.returns
-returns c =
+pub returns-else-at-m : goal.returns-else-at-m
+returns-else-at-m c =
     let a = c.args in
     let links = a.links.now in
-    sym (none_at (λ s. eqb (walk (linked links) s a.v) (length links)) (suc (length links)) (λ j h. c.loop-s.invariant.2 j (omega arith)))
+    let passed = below_more _ _ c.loop.invariant.1 (ne_eqb _ _ (λ e. c.if-at-m.false (c.loop.invariant.0 ∙ e))) in
+    sym (none_at (λ s. eqb (walk (linked links) s a.v) (length links)) (suc (length links)) (λ j h. passed j (omega arith)))

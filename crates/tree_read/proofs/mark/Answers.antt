@@ -1,35 +1,30 @@
--- The edges among the first s places of the walk are marked.
-use Prim.Native.Nat.{suc}
+-- The edges among the places of the walk before this step are marked.
+use Rattle.std.proofs.Common.{rules, suc, ◌≡◌, refl, cond, ◌&&◌, ltb, ◌+◌, length, get_or, set}
 use native.Mathlib.Omega.{arith}
-use mathlib.Core.Path.{◌≡◌, refl}
-use lib.ListN.{length}
+use Rattle.std.proofs.lemmas.Grind.{common_steps}
 use Rattle.statement.specs.Tree.{walk}
 use Rattle.tree_check.specs.Parts.{linked}
 use Rattle.tree_check.proofs.Walked.{walk_next}
-use Rattle.tree_read.proofs.Marking.{mark_none, mark_root, mark_kept, mark_put}
+use Rattle.tree_read.proofs.Marking.{mark_none, mark_on}
 use Rattle.tree_read.proofs.mark.Goals as goal
-use Rattle.tree_read.proofs.mark.Goals.{then-at-m+then-marked-at, then-at-m+else-marked-at, else-at-m}
 
-pub loop-s-init : goal.loop-s-init
+pub loop-init : goal.loop-init
 unfolding walk
-loop-s-init c = (omega arith, refl, mark_none _ _ _ _ c.requires.links_len_bound.1)
+loop-init c = (refl, mark_none _ _ _ _ (search rules))
 
-pub loop-s-preserved : goal.loop-s-preserved
-loop-s-preserved c =
+pub loop-preserved : goal.loop-preserved
+loop-preserved c =
+    let l = c.loop in
     let a = c.args in
-    let links = a.links.now in
-    let at = c.loop-s.invariant.1 in
-    let marked = c.loop-s.invariant.2 in (
-      omega arith,
-      walk_next (linked links) c.loop-s.s a.home c.loop-s.at _ at c.step_up-at.ensures,
-      elim c.if-at-m.branch [
-        | then-at-m+then-marked-at w ↦ rw w.marked-is (mark_put at marked w.if-at-m.true (c.requires.by_index _ w.if-at-m.true) (omega arith) w.if-marked-at.true)
-        | then-at-m+else-marked-at w ↦ rw w.marked-is (mark_kept at marked w.if-at-m.true (c.requires.by_index _ w.if-at-m.true) w.if-marked-at.false)
-        | else-at-m w ↦ rw w.marked-is (mark_root at marked w.if-at-m.false)
-      ],
+    let stored : c.if-at-m.clusters ≡ cond (ltb l.at (length a.links.now) && ltb (get_or l.clusters l.at 0) a.group) (set l.clusters l.at (get_or l.clusters l.at 0 + a.group)) l.clusters = grind (arith, common_steps) in (
+      walk_next (linked a.links.now) l.counter a.home l.at _ l.invariant.0 c.step_up-at.ensures,
+      mark_on l.invariant.0 l.invariant.1 c.requires.links_len_bound.0 c.requires.by_index _ stored,
     )
 
-pub returns : goal.returns
-returns c =
-    let e : c.loop-s.s ≡ suc (length c.args.links.now) = omega arith in
-    rw e at c.loop-s.invariant.2
+pub returns-after-at-m : goal.returns-after-at-m
+returns-after-at-m c =
+    let l = c.loop in
+    let a = c.args in
+    let stored : c.if-at-m.clusters ≡ cond (ltb l.at (length a.links.now) && ltb (get_or l.clusters l.at 0) a.group) (set l.clusters l.at (get_or l.clusters l.at 0 + a.group)) l.clusters = grind (arith, common_steps) in
+    let last : l.counter + 1 ≡ suc (length a.links.now) = omega arith in
+    rw last at (mark_on l.invariant.0 l.invariant.1 c.requires.links_len_bound.0 c.requires.by_index _ stored)

@@ -1,5 +1,5 @@
 -- `tree_write::put_weights` meets its contract: the weights passed are pasted, four bytes each.
-use Prim.Native.Nat.{◌*◌, ◌-◌, ◌≤◌}
+use Prim.Native.Nat.{◌*◌}
 use mathlib.Core.Path.{◌≡◌}
 use lib.ListN.{length}
 use lib.Seq.{paste}
@@ -8,7 +8,4 @@ use Rattle.statement.specs.Bytes.{to_bytes}
 use Rattle.tree_write.proofs.put_weights.Given as goal
 
 abbrev pub invariant-loop-i : goal.invariant-loop-i
-invariant-loop-i l = (l.i ≤ l.m) × (length l.out ≡ length l.initial.out) × (l.out ≡ paste l.initial.out l.at (to_bytes (weights (rows_of l.s))) (4 * l.i))
-
-abbrev pub decreases-loop-i : goal.decreases-loop-i
-decreases-loop-i l = l.m - l.i
+invariant-loop-i l = (length l.out ≡ length l.initial.out) × (l.out ≡ paste l.initial.out l.at (to_bytes (weights (rows_of l.s))) (4 * l.i))

@@ -11,6 +11,6 @@ pub returns-then-i-m : goal.returns-then-i-m
 returns-then-i-m c = λ rows these.
     let a = c.args in c.link_of.ensures.value rows these ∙ vertex_link a.n rows a.i (omega (arith, these.count))
 
-pub returns : goal.returns
-returns c = λ rows these.
+pub returns-else-i-m : goal.returns-else-i-m
+returns-else-i-m c = λ rows these.
     let a = c.args in c.home_of.ensures.value rows these ∙ vertex_home a.n rows a.i _ (omega arith) (omega (arith, these.count))

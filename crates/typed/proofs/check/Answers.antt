@@ -1,10 +1,9 @@
 -- `typed::check` meets its contract, one test after the other.
-use Prim.Native.Nat.{◌*◌, ◌≤◌}
-use native.Mathlib.Omega.{arith}
+use borrow.Author.Tests.{eqb-true, eqb-false, eq-eqb, both_ways}
 use mathlib.Core.Path.{sym, ◌∙◌}
 use Rattle.typed.proofs.Texts.{said_strange, said_large, said_few, said_many, said_full, said_half, said_count}
-use Rattle.typed.proofs.Entries.{square_small}
 use Rattle.typed.proofs.check.Goals as goal
+use Rattle.typed.proofs.check.Goals.{then-n-lt2-via-then-n-lt2, then-n-lt2-via-else-n-lt2+then-n-gt64, then-values-n, else-values-n}
 
 pub returns-then-strange-text : goal.returns-then-strange-text
 returns-then-strange-text c = said_strange _ _ c.first_wrong-strange.ensures c.if-strange-text.true
@@ -15,45 +14,31 @@ returns-then-large-text c =
 
 pub returns-then-n-lt2 : goal.returns-then-n-lt2
 returns-then-n-lt2 c =
-    said_few _ _ c.first_wrong-strange.ensures c.if-strange-text.false _ c.first_wrong-large.ensures c.if-large-text.false
-    _ c.number_of-n.ensures _ c.start_of.ensures c.if-n-lt2.true
-
-pub returns-then-n-gt64 : goal.returns-then-n-gt64
-returns-then-n-gt64 c =
-    said_many _ _ c.first_wrong-strange.ensures c.if-strange-text.false _ c.first_wrong-large.ensures c.if-large-text.false
-    _ c.number_of-n.ensures _ c.start_of-then-n-gt64.ensures c.if-n-gt64.true
-
-pub overflow_mul-n : goal.overflow_mul-n
-overflow_mul-n c =
-    let wanted-small : c.number_of-n.result * c.number_of-n.result ≤ 4096 =
-    square_small c.number_of-n.result c.if-n-gt64.false in
-    omega (arith, wanted-small)
-
-pub returns-then-values-n : goal.returns-then-values-n
-returns-then-values-n c =
-    said_full _ _ c.first_wrong-strange.ensures c.if-strange-text.false _ c.first_wrong-large.ensures c.if-large-text.false
-    _ c.number_of-n.ensures c.if-n-lt2.false c.if-n-gt64.false _ c.found-values.ensures c.if-values-n.true
+    let text = c.args.text.now in
+    elim c.then-n-lt2.branch [
+      | then-n-lt2-via-then-n-lt2 w ↦ said_few text _ c.first_wrong-strange.ensures c.if-strange-text.false _ c.first_wrong-large.ensures c.if-large-text.false
+          _ c.number_of-n.ensures _ c.start_of.ensures w.if-n-lt2.true
+      | then-n-lt2-via-else-n-lt2+then-n-gt64 w ↦ said_many text _ c.first_wrong-strange.ensures c.if-strange-text.false _ c.first_wrong-large.ensures c.if-large-text.false
+          _ c.number_of-n.ensures _ c.start_of.ensures w.if-n-gt64.true
+    ]
 
 pub returns-then-values-half_of : goal.returns-then-values-half_of
 returns-then-values-half_of c =
-    said_half _ _ c.first_wrong-strange.ensures c.if-strange-text.false _ c.first_wrong-large.ensures c.if-large-text.false
-    _ c.number_of-n.ensures c.if-n-lt2.false c.if-n-gt64.false _ c.found-values.ensures
-    c.if-values-n.false (c.if-values-half_of.true ∙ c.half_of.ensures)
+    let text = c.args.text.now in
+    elim c.if-values-n.branch [
+      | then-values-n w ↦ said_full text _ c.first_wrong-strange.ensures c.if-strange-text.false _ c.first_wrong-large.ensures c.if-large-text.false
+          _ c.number_of-n.ensures c.if-n-lt2.false c.if-n-gt64.false _ c.found-values.ensures w.if-values-n.true
+      | else-values-n w ↦ said_half text _ c.first_wrong-strange.ensures c.if-strange-text.false _ c.first_wrong-large.ensures c.if-large-text.false
+          _ c.number_of-n.ensures c.if-n-lt2.false c.if-n-gt64.false _ c.found-values.ensures
+          w.if-values-n.false (eqb-true _ _ (sym w.value-is ∙ c.if-values-half_of.true) ∙ w.half_of.ensures)
+    ]
 
-pub overflow_mul-n-2 : goal.overflow_mul-n-2
-overflow_mul-n-2 c =
-    let wanted-small : c.number_of-n.result * c.number_of-n.result ≤ 4096 =
-    square_small c.number_of-n.result c.if-n-gt64.false in
-    omega (arith, wanted-small)
-
-pub overflow_add-n : goal.overflow_add-n
-overflow_add-n c =
-    let wanted-small : c.number_of-n.result * c.number_of-n.result ≤ 4096 =
-    square_small c.number_of-n.result c.if-n-gt64.false in
-    omega (arith, wanted-small)
-
-pub returns : goal.returns
-returns c =
-    said_count _ _ c.first_wrong-strange.ensures c.if-strange-text.false _ c.first_wrong-large.ensures c.if-large-text.false
-    _ c.number_of-n.ensures c.if-n-lt2.false c.if-n-gt64.false _ c.found-values.ensures
-    c.if-values-n.false (λ h. c.if-values-half_of.false (h ∙ sym c.half_of.ensures)) _ c.start_of-2.ensures
+pub returns-else-values-half_of : goal.returns-else-values-half_of
+returns-else-values-half_of c =
+    let text = c.args.text.now in
+    elim c.if-values-n.branch [
+      | then-values-n w ↦ absurd (both_ways _ (sym w.value-is ∙ c.if-values-half_of.false) (eq-eqb _ _ w.if-values-n.true))
+      | else-values-n w ↦ said_count text _ c.first_wrong-strange.ensures c.if-strange-text.false _ c.first_wrong-large.ensures c.if-large-text.false
+          _ c.number_of-n.ensures c.if-n-lt2.false c.if-n-gt64.false _ c.found-values.ensures
+          w.if-values-n.false (λ h. eqb-false _ _ (sym w.value-is ∙ c.if-values-half_of.false) (h ∙ sym w.half_of.ensures)) _ c.start_of-else-values-half_of.ensures
+    ]

@@ -1,45 +1,32 @@
--- `typed::entry_place` meets its contract, by the n of the text.
-use Prim.Native.Nat.{ℕ, ◌+◌, ◌*◌, ◌≤◌}
+-- `typed::entry_place` meets its contract, by what the check says of the text.
+use Prim.Native.Nat.{ℕ, ◌+◌}
 use native.Mathlib.Omega.{arith}
-use mathlib.Core.Path.{◌∙◌, ap}
-use lib.Dec.{eqb}
+use mathlib.Core.Path.{sym, ◌∙◌, ap, ap₂}
+use mathlib.Core.Bool.{Bool}
 use lib.ListN.{length, get_or}
 use Rattle.numerals.specs.Numerals.{starts_in}
 use Rattle.typed.specs.Typed.{value_for}
-use Rattle.typed.proofs.Body.{few_taken, place_none, place_found, place_taken}
+use Rattle.typed.proofs.Texts.{matrix_taken}
+use Rattle.typed.proofs.Body.{place_refused, place_none, place_found}
 use Rattle.typed.proofs.Entries.{square_small}
 use Rattle.typed.proofs.entry_place.Goals as goal
 
 pub overflow_mul-n : goal.overflow_mul-n
-overflow_mul-n c =
-    let few : c.taxa_of-n.result * c.taxa_of-n.result ≤ 4096 =
-    square_small c.taxa_of-n.result
-    (few_taken c.args.text.now c.check.result c.taxa_of-n.result c.check.ensures c.taxa_of-n.ensures) in
-    omega (arith, few)
+overflow_mul-n c = omega (arith, square_small c.in-Ok.n (matrix_taken c.args.text.now c.in-Ok.n (sym c.in-Ok.is ∙ c.check.ensures)).few)
 
-pub returns-then-e-n : goal.returns-then-e-n
-returns-then-e-n c =
+pub of-requires : goal.of-requires
+of-requires c = matrix_taken c.args.text.now c.in-Ok.n (sym c.in-Ok.is ∙ c.check.ensures)
+
+pub returns-in-Ok : goal.returns-in-Ok
+returns-in-Ok c =
     let a = c.args in
-    place_none a.text.now c.check.result c.taxa_of-n.result c.check.ensures c.taxa_of-n.ensures a.e c.if-e-n.true
+    let text = a.text.now in
+    let same = ap₂ (λ (n : ℕ) (full : Bool). value_for n full a.e) c.of.ensures.taxa c.of.ensures.full in
+    c.start_of.ensures ∙ ap (λ (v : ℕ). get_or (starts_in text) (1 + v) (length text)) (c.value_for.ensures.value ∙ same)
+    ∙ place_found text a.e c.in-Ok.n (sym c.in-Ok.is ∙ c.check.ensures) c.if-e-n.true
 
-pub overflow_mul-full : goal.overflow_mul-full
-overflow_mul-full c =
-    let few : c.taxa_of-n.result * c.taxa_of-n.result ≤ 4096 =
-    square_small c.taxa_of-n.result
-    (few_taken c.args.text.now c.check.result c.taxa_of-n.result c.check.ensures c.taxa_of-n.ensures) in
-    omega (arith, few)
+pub returns-in_default : goal.returns-in_default
+returns-in_default c = place_none c.args.text.now c.args.e c.in-Ok.n (sym c.in-Ok.is ∙ c.check.ensures) c.if-e-n.false
 
-pub value_for-requires : goal.value_for-requires
-value_for-requires c =
-    let a = c.args in
-    let t = place_taken a.text.now c.check.result c.taxa_of-n.result c.check.ensures c.taxa_of-n.ensures a.e c.if-e-n.false in
-    (t.two, t.few, c.if-e-n.false)
-
-pub returns : goal.returns
-returns c =
-    let a = c.args in
-    let k = c.taxa_of-n.result in
-    c.start_of.ensures
-    ∙ ap (λ (i : ℕ). get_or (starts_in a.text.now) (1 + i) (length a.text.now))
-    (c.value_for.ensures.0 ∙ ap (λ (v : ℕ). value_for k (eqb v (k * k)) a.e) c.found.ensures)
-    ∙ place_found a.text.now c.check.result k c.check.ensures c.taxa_of-n.ensures a.e c.if-e-n.false
+pub returns-in_default-2 : goal.returns-in_default-2
+returns-in_default-2 c = place_refused c.args.text.now c.args.e c.in_default.field-0 (sym c.in_default.is ∙ c.check.ensures)

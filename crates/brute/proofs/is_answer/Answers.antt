@@ -1,6 +1,0 @@
--- `brute::is_answer` is safe, ends, and says yes only to a list of n taxa.
-use mathlib.Core.Bool.{false≢true}
-use Rattle.brute.proofs.is_answer.Goals as goal
-
-pub returns-then-list-n : goal.returns-then-list-n
-returns-then-list-n c e = absurd (false≢true e)

@@ -1,9 +1,0 @@
--- `brute::trivial` is safe and ends.
-use Prim.Native.Nat.{◌-◌, ◌≤◌}
-use Rattle.brute.proofs.trivial.Given as goal
-
-abbrev pub invariant-loop-i : goal.invariant-loop-i
-invariant-loop-i l = l.i ≤ l.n
-
-abbrev pub decreases-loop-i : goal.decreases-loop-i
-decreases-loop-i l = l.n - l.i

@@ -1,9 +1,0 @@
--- `brute::weight_in` is safe and ends.
-use Prim.Native.Nat.{◌-◌}
-use Rattle.brute.proofs.weight_in.Given as goal
-
-abbrev pub invariant-loop-i : goal.invariant-loop-i
-invariant-loop-i l = Unit {0}
-
-abbrev pub decreases-loop-i : goal.decreases-loop-i
-decreases-loop-i l = 125 - l.i

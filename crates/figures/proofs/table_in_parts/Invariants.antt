@@ -1,9 +1,0 @@
--- `figures::table_in_parts` is safe and ends.
-use Rattle.std.proofs.Common.{◌-◌}
-use Rattle.figures.proofs.table_in_parts.Given as goal
-
-abbrev pub invariant-loop-i : goal.invariant-loop-i
-invariant-loop-i l = Unit {0}
-
-abbrev pub decreases-loop-i : goal.decreases-loop-i
-decreases-loop-i l = 80 - l.i

@@ -1,0 +1,1 @@
+-- No definitions: the contracts speak of those of `statement`.
