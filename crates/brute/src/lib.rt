@@ -77,7 +77,7 @@ fn weight_by(m: &Matrix, c: u64, held: Option<usize>, start: i64) -> u64 {
     u64::try_from(least).unwrap_or(0)
 }
 
-// Whether the fours a<b<x<d of a split, of which the table says `byte`, is parted by the split as the table says or not by two and two.
+// Whether the four a<b<x<d of a split, of which the table says `byte`, is parted by the split as the table says or not by two and two.
 fn agrees(c: u64, a: usize, b: usize, x: usize, d: usize, byte: u8) -> bool
     requires { (a < 7) × (b < 7) × (x < 7) × (d < 7) }
 {

@@ -1,5 +1,5 @@
 -- LAWS of a number in decimal, digit by digit, and of its bytes stored one after the other. Assumes nothing.
-use mathlib.Core.Path.{◌≡◌, refl, ap, sym, ◌∙◌}
+use mathlib.Core.Path.{◌≡◌, refl, ap, ◌∙◌}
 use mathlib.Core.List.{List, [], ◌∷◌, ◌++◌}
 use Prim.Native.Nat.{ℕ, zero, suc, ◌+◌, ◌/◌, ◌%◌, ◌≤◌, ◌<◌}
 use native.Mathlib.Omega.{arith}
@@ -33,9 +33,3 @@ len_one n h = ap length (decimal_one n h)
 
 pub len_more : (n : ℕ) → 10 ≤ n → length (decimal n) ≡ length (decimal (n / 10)) + 1
 len_more n h = ap length (decimal_more n h) ∙ length-append (decimal (n / 10)) ((48 + n % 10) ∷ [])
-
-pub sets_one : (n : ℕ) (l : List ℕ) (i : ℕ) → n < 10 → set l i (48 + n) ≡ sets l i (decimal n)
-sets_one n l i h = rw (decimal_one n h)
-
-pub sets_more : (n : ℕ) (l : List ℕ) (i : ℕ) → 10 ≤ n → set (sets l i (decimal (n / 10))) (i + length (decimal (n / 10))) (48 + n % 10) ≡ sets l i (decimal n)
-sets_more n l i h = sym (ap (sets l i) (decimal_more n h) ∙ sets_append (decimal (n / 10)) ((48 + n % 10) ∷ []) l i)

@@ -1,29 +1,38 @@
-// A byte, and a number in decimal without leading zeros, written as far as there is room for them; the place past them in any case.
+// A pen writes bytes, and numbers in decimal without leading zeros, into a lent slice as far as there is room for them; its place is past them in any
+// case.
 #![tactic(auto)]
 
-ghost use Rattle.std.specs.Prelude.{◌≡◌, ◌+◌, ◌≤◌, ◌<◌, length, set};
-ghost use Rattle.std.proofs.lemmas.List.Edits.{sets};
+ghost use Rattle.std.specs.Prelude.{[], ◌∷◌};
 ghost use Rattle.statement.specs.Decimal.{decimal};
+ghost use Rattle.newick_digits.specs.Pen.{Fits, Wrote};
 
-// One byte, where there is room for it.
-pub fn put(out: &mut [u8], at: usize, b: u8) -> usize
-    requires { at < 1000000 }
-    ensures { (out.new ≡ set out.old at b) × (result ≡ at + 1) }
-{
-    if at < out.len() {
-        out[at] = b;
-    }
-    at + 1
+// The slice, and the place of the next byte.
+#[derive(Drop)]
+pub struct Pen<'a> {
+    pub out: &'a mut [u8],
+    pub at: usize,
 }
 
-// A number in decimal, where there is room for it.
-pub fn put_number(out: &mut [u8], at: usize, n: u64) -> usize
-    requires { at + length (decimal n) ≤ 1000000 }
-    ensures { (out.new ≡ sets out.old at (decimal n)) × (result ≡ at + length (decimal n)) }
-{
-    if n < 10 {
-        return put(out, at, b'0' + n as u8);
+impl<'a> Pen<'a> {
+    // One byte, where there is room for it.
+    pub fn put(&mut self, b: u8)
+        requires { Fits self.old (b ∷ []) }
+        ensures { Wrote self.old self.new (b ∷ []) }
+    {
+        if self.at < self.out.len() {
+            self.out[self.at] = b;
+        }
+        self.at += 1;
     }
-    let p = put_number(out, at, n / 10);
-    put(out, p, b'0' + (n % 10) as u8)
+
+    // A number in decimal, where there is room for it.
+    pub fn put_number(&mut self, n: u64)
+        requires { Fits self.old (decimal n) }
+        ensures { Wrote self.old self.new (decimal n) }
+    {
+        if n >= 10 {
+            self.put_number(n / 10);
+        }
+        self.put(b'0' + (n % 10) as u8);
+    }
 }

@@ -48,8 +48,7 @@ fn put_list(n: usize, list: Splits, out: &mut [u8]) -> usize
 }
 
 // The answer to a text: its tree's record at the start of `out`, and how long it is; or 0, and a line that says what is wrong. `more` says that the
-// text goes on behind its 65,536 bytes. Where that line cannot be written, the error, and `out` is as it
-// was: an accepted text never meets it.
+// text goes on behind its 65,536 bytes. Where that line cannot be written, the error, and `out` is as it was: an accepted text never meets it.
 pub fn answer(
     rt: &impl Print,
     n: usize,

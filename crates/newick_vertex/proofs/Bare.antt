@@ -1,68 +1,96 @@
--- The next place that holds a number, and the taxon that stands for a vertex without brackets. Assumes nothing.
-use Prim.Native.Nat.{ℕ, ◌+◌, ◌-◌, ◌≤◌, ◌<◌}
+-- The places that hold a number, and the taxon that stands for a vertex without brackets. Assumes nothing.
+use Prim.Native.Nat.{ℕ, zero, suc, ◌+◌, ◌-◌, ◌≤◌, ◌<◌}
 use native.Mathlib.Omega.{arith}
 use mathlib.Core.Path.{◌≡◌, sym, ◌∙◌, ap}
-use mathlib.Core.Bool.{true, false, true≢false}
-use Rattle.std.specs.Prelude.{Option, Some, None, IfSome, is_some, unwrap_or}
+use mathlib.Core.Bool.{Bool, true, false}
 use mathlib.Core.List.{List, [], ◌∷◌}
 use lib.Dec.{eqb}
 use lib.ListN.{length, get_or}
-use borrow.Author.Tests.{eq-eqb}
+use Rattle.std.proofs.Common.{min, take, drop}
+use Rattle.std.proofs.lemmas.List.{get_or-take, get_or-drop, length-take, length-drop}
 use Rattle.statement.proofs.Tests.{fails_is}
-use Rattle.statement.specs.NewickText.{Shape, those_from, homed, children}
+use Rattle.statement.specs.Rows.{Mem}
+use Rattle.statement.specs.NewickText.{those_from, homed, children}
 use Rattle.newick_list.proofs.Room.{alone_is}
-use Rattle.newick_list.proofs.Those.{those_take, those_end}
-use Rattle.newick_vertex.specs.Arrays.{having, shape_in, Next, Lone}
+use Rattle.newick_list.proofs.Those.{those_skip, those_take, those_end, those_are}
+use Rattle.newick_vertex.specs.declared.Arrays.{Arrays}
+use Rattle.newick_vertex.specs.Arrays.{having, Lone}
+use Rattle.newick_vertex.specs.Held.{held}
 
 pub having_all : (xs : List ℕ) (x e : ℕ) → having xs x 0 e ≡ those_from (λ j. eqb (get_or xs j 0) x) 0 e
 having_all xs x e = ap (those_from (λ j. eqb (get_or xs j 0) x) 0) (let z : e - 0 ≡ e = omega arith in z)
 
-module _ (xs : List ℕ) (x i e r : ℕ) (next : Next xs x i e r) where
-  pub next_some : r < e → having xs x i e ≡ r ∷ having xs x (r + 1) e
-  next_some l = next.same ∙ those_take (λ j. eqb (get_or xs j 0) x) e r l (eq-eqb (get_or xs r 0) x (next.hit l))
+-- d numbers that fail are passed over
+those_past : (p : ℕ → Bool) (e i d : ℕ) → i + d ≤ e → ((j : ℕ) → i ≤ j → j < i + d → p j ≡ false) → those_from p i (e - i) ≡ those_from p (i + d) (e - (i + d))
+those_past p e i zero h f = ap (λ (k : ℕ). those_from p k (e - k)) (let z : i ≡ i + 0 = omega arith in z)
+those_past p e i (suc d) h f =
+    those_skip p e i (omega arith) (f i (omega arith) (omega arith)) ∙ those_past p e (i + 1) d (omega arith) (λ j a l. f j (omega arith) (omega arith))
+    ∙ ap (λ (k : ℕ). those_from p k (e - k)) (let z : i + 1 + d ≡ i + suc d = omega arith in z)
 
-  pub next_none : e ≤ r → having xs x i e ≡ []
-  next_none l = next.same ∙ those_end (λ j. eqb (get_or xs j 0) x) e r l
+long : (x : ℕ) (xs : List ℕ) → Mem x xs → 0 < length xs
+long x [] h = elim h [ ]
+long x (y ∷ xs) h = omega arith
 
--- and where one stands at i already
-pub here_some : (xs : List ℕ) (x e r : ℕ) → r < e → get_or xs r 0 ≡ x → having xs x r e ≡ r ∷ having xs x (r + 1) e
-here_some xs x e r l h = those_take (λ j. eqb (get_or xs j 0) x) e r l (eq-eqb (get_or xs r 0) x h)
+module _ (xs : List ℕ) (x : ℕ) where
+  -- nothing from i on; something; and the first of all
+  none_from : (i e : ℕ) → i ≤ e → ((j : ℕ) → i ≤ j → j < e → eqb (get_or xs j 0) x ≡ false) → having xs x i e ≡ []
+  none_from i e h f =
+      let d : i + (e - i) ≡ e = omega arith in
+      those_past (λ j. eqb (get_or xs j 0) x) e i (e - i) (omega arith) (λ j a l. f j a (omega arith)) ∙ those_end (λ j. eqb (get_or xs j 0) x) e (i + (e - i)) (omega arith)
 
--- a search that finds something, or nothing
-pub some_below : (o : Option ℕ) (e : ℕ) → IfSome o (λ j. j < e) → is_some o ≡ true → unwrap_or o e < e
-some_below (Some j) e h q = h
-some_below None e h q = absurd (true≢false (sym q))
+  some_from : (i e j : ℕ) → i ≤ j → j < e → eqb (get_or xs j 0) x ≡ true → 0 < length (having xs x i e)
+  some_from i e j a l h = long j _ (those_are (λ k. eqb (get_or xs k 0) x) i (e - i) j (record { low = a; high = omega arith; test = h }))
 
-pub none_at : (o : Option ℕ) (e : ℕ) → is_some o ≡ false → e ≤ unwrap_or o e
-none_at (Some j) e q = absurd (true≢false q)
-none_at None e q = omega arith
+  first_of : (i e : ℕ) → i < e → eqb (get_or xs i 0) x ≡ true → ((j : ℕ) → j < i → eqb (get_or xs j 0) x ≡ false) → having xs x 0 e ≡ i ∷ having xs x (i + 1) e
+  first_of i e l h f =
+      those_past (λ j. eqb (get_or xs j 0) x) e 0 i (omega arith) (λ j _ k. f j (omega arith))
+      ∙ ap (λ (k : ℕ). those_from (λ j. eqb (get_or xs j 0) x) k (e - k)) (let z : 0 + i ≡ i = omega arith in z)
+      ∙ those_take (λ j. eqb (get_or xs j 0) x) e i l h
 
-module _ (n m : ℕ) (ls hs : List ℕ) (v : ℕ) where
-  abbrev t : Shape
-  t = shape_in n m ls hs []
+-- among a list's first places, and behind some
+pub in_front : (xs : List ℕ) (v c : ℕ) → c < length (take v xs) → (c < v) × (get_or (take v xs) c 0 ≡ get_or xs c 0)
+in_front xs v c l = let k : c < v = omega (arith, l, length-take v xs) in (k, get_or-take v xs c 0 k)
 
-  off : (r : ℕ) → n ≤ r → (((v < m) × (length (homed t v) ≡ 1)) × (length (children t v) ≡ 0) → ⊥) → Lone t v r
-  off r l f = record { bare = λ h. absurd (omega arith); brackets = λ _. (fails_is (alone_is t v)).1 f }
+module _ (xs : List ℕ) (i k : ℕ) where
+  pub behind : i + k < length xs → get_or (take (length xs - i) (drop i xs)) k 0 ≡ get_or xs (i + k) 0
+  behind l = get_or-take (length xs - i) (drop i xs) k 0 (omega arith) ∙ get_or-drop i xs k 0
 
-  pub lone_root : v ≡ m → Lone t v n
-  lone_root e = off n (omega arith) (λ h. omega (arith, h.0.0))
+  pub behind_length : length (take (length xs - i) (drop i xs)) ≡ length xs - i
+  behind_length = length-take (length xs - i) (drop i xs) ∙ (let e : min (length xs - i) (length (drop i xs)) ≡ length xs - i = omega (arith, length-drop i xs) in e)
 
-  pub lone_child : (c : ℕ) → Next ls v 0 v c → c < v → Lone t v n
-  lone_child c next l = off n (omega arith) (λ h. omega (arith, h.1, ap length (sym (having_all ls v v) ∙ next_some ls v 0 v c next l)))
+module _ (a : Arrays) (v : ℕ) where
+  abbrev n : ℕ
+  n = length a.homes.now
 
-  pub lone_none : (i : ℕ) → Next hs v 0 n i → n ≤ i → Lone t v n
-  lone_none i next l = off n (omega arith) (λ h. omega (arith, h.0.1, ap length (sym (having_all hs v n) ∙ next_none hs v 0 n i next l)))
+  abbrev at_home : ℕ → Bool
+  at_home i = eqb (get_or a.homes.now i 0) v
 
-  pub lone_two : (i j : ℕ) → Next hs v 0 n i → i < n → Next hs v (i + 1) n j → j < n → Lone t v n
-  lone_two i j next l next' l' =
-      off n (omega arith)
-      (λ h. omega (arith, h.0.1, ap length (sym (having_all hs v n) ∙ next_some hs v 0 n i next l), ap length (next_some hs v (i + 1) n j next' l')))
+  abbrev below : ℕ → Bool
+  below c = eqb (get_or a.links.now c 0) v
 
-  pub lone_one : (c i j : ℕ) → v < m → Next ls v 0 v c → v ≤ c → Next hs v 0 n i → i < n → Next hs v (i + 1) n j → n ≤ j → Lone t v i
-  lone_one c i j k none q next l next' l' =
-      let one : homed t v ≡ i ∷ [] = sym (having_all hs v n) ∙ next_some hs v 0 n i next l ∙ ap (λ (xs : List ℕ). i ∷ xs) (next_none hs v (i + 1) n j next' l') in
-      record {
-        bare = λ h.
-            ((alone_is t v).1 ((k, ap length one), ap length (sym (having_all ls v v) ∙ next_none ls v 0 v c none q)), ap (λ (xs : List ℕ). get_or xs 0 0) one);
-        brackets = λ h. absurd (omega arith);
-      }
+  off : (((v < length a.links.now) × (length (homed (held a) v) ≡ 1)) × (length (children (held a) v) ≡ 0) → ⊥) → Lone (held a) v n
+  off f = record { bare = λ h. absurd (omega arith); brackets = λ _. (fails_is (alone_is (held a) v)).1 f }
+
+  pub lone_root : v ≡ length a.links.now → Lone (held a) v n
+  lone_root e = off (λ h. omega (arith, h.0.0))
+
+  pub lone_child : (c : ℕ) → c < v → below c ≡ true → Lone (held a) v n
+  lone_child c l h = off (λ k. omega (arith, k.1, ap length (having_all a.links.now v v), some_from a.links.now v 0 v c (omega arith) l h))
+
+  pub lone_none : ((i : ℕ) → i < n → at_home i ≡ false) → Lone (held a) v n
+  lone_none f = off (λ k. omega (arith, k.0.1, ap length (having_all a.homes.now v n), ap length (none_from a.homes.now v 0 n (omega arith) (λ i _ l. f i l))))
+
+  module _ (i : ℕ) (l : i < n) (here : at_home i ≡ true) (first : (j : ℕ) → j < i → at_home j ≡ false) where
+    pub lone_two : (j : ℕ) → i < j → j < n → at_home j ≡ true → Lone (held a) v n
+    lone_two j up k h =
+        off (λ q. omega (arith, q.0.1, ap length (having_all a.homes.now v n), ap length (first_of a.homes.now v i n l here first), some_from a.homes.now v (i + 1) n j (omega arith) k h))
+
+    pub lone_one : v < length a.links.now → ((c : ℕ) → c < v → below c ≡ false) → ((j : ℕ) → i < j → j < n → at_home j ≡ false) → Lone (held a) v i
+    lone_one k kids last =
+        let one : homed (held a) v ≡ i ∷ [] = sym (having_all a.homes.now v n) ∙ first_of a.homes.now v i n l here first
+        ∙ ap (λ (xs : List ℕ). i ∷ xs) (none_from a.homes.now v (i + 1) n (omega arith) (λ j u w. last j (omega arith) w)) in
+        let none : length (children (held a) v) ≡ 0 = ap length (sym (having_all a.links.now v v) ∙ none_from a.links.now v 0 v (omega arith) (λ c _ w. kids c w)) in
+        record {
+          bare = λ h. ((alone_is (held a) v).1 ((k, ap length one), none), ap (λ (xs : List ℕ). get_or xs 0 0) one);
+          brackets = λ h. absurd (omega arith);
+        }

@@ -15,13 +15,6 @@ abbrev pub lead_at : Bool → ℕ
 lead_at true = 40
 lead_at false = 44
 
--- r is the next place that holds x
-pub record Next (xs : List ℕ) (x i e r : ℕ) : Type 0 where
-  pub low : i ≤ r
-  pub high : r ≤ e
-  pub hit : r < e → get_or xs r 0 ≡ x
-  pub same : having xs x i e ≡ having xs x r e
-
 -- r is the taxon that stands for v without brackets, and n where v has brackets
 pub record Lone (t : Shape) (v r : ℕ) : Type 0 where
   pub bare : r < t.taxa → (unbracketed t v ≡ true) × (get_or (homed t v) 0 0 ≡ r)

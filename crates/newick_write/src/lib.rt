@@ -10,6 +10,7 @@ ghost use Rattle.statement.specs.NewickText.{newick_of, newick_length};
 ghost use Rattle.statement.specs.Calls.{measure_newick, write_newick, newick_written};
 ghost use Rattle.statement.specs.Replies.{said};
 
+use newick_digits::Pen;
 use newick_vertex::Arrays;
 use splits_list::check_whole;
 use statement::{Reason, Refusal, Splits};
@@ -35,7 +36,7 @@ struct Tree<'a> {
     links: [usize; 125],
     homes: [usize; 64],
     ghost few: { n ≤ 64 },
-    ghost sized: { length list.now.clusters ≡ 125 },
+    ghost sized: { (length list.now.clusters ≡ 125) × (length list.now.weights ≡ 125) },
     ghost well: { well_formed weight_limit n list.now ≡ true },
     ghost whole: { list.now.taxa ≡ n },
     ghost linked: { Linked n list.now links homes },
@@ -61,14 +62,14 @@ impl<'a> Tree<'a> {
     {
         let m = self.list.rows;
         let arrays = Arrays {
-            n: self.n,
-            m,
-            links: &self.links,
-            homes: &self.homes,
-            weights: &self.list.weights,
+            homes: &self.homes[..self.n],
+            links: &self.links[..m],
+            weights: &self.list.weights[..m],
         };
-        let p = arrays.vertex(m, out, 0);
-        newick_digits::put(out, p, b';')
+        let mut pen = Pen { out, at: 0 };
+        arrays.vertex(m, &mut pen);
+        pen.put(b';');
+        pen.at
     }
 
     // The length of its text: nothing has room in one byte but the first.

@@ -1,4 +1,4 @@
-// What programs print. No contract can say what is written to standard output: these are proved safe and ending, and programs that use them are
+// What programs print, and how bytes and rows are shown. No contract can say what is written to standard output: these are proved safe and ending, and programs that use them are
 // compared with stored output. Each ends early with the error of a write that failed.
 #![tactic(auto)]
 

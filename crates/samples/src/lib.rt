@@ -1,4 +1,5 @@
-// Small pseudo-random inputs for tests: matrices of up to 7 taxa in five shapes, and tables made from such matrices by the four-point rule.
+// Small pseudo-random inputs for tests: matrices of up to 7 taxa in five shapes, and tables made from such matrices by the four-point rule
+// or of random bytes.
 #![tactic(auto)]
 
 ghost use Rattle.std.specs.Prelude.{◌≡◌, ◌*◌, ◌<◌, ◌≤◌, length};

@@ -53,7 +53,7 @@ fn readings(rt: &impl Print) -> io::Result<()> {
     print(rt, tree_read::read_tree(3, &twins))
 }
 
-// The tree of a list, written into the first bytes of a body of 64.
+// The tree of a list, written into the first bytes of a body of 64; none where the writing is refused.
 fn written(n: usize, list: &Splits, len: usize) -> Option<[u8; 64]> {
     let mut bytes = [0; 64];
     tree_write::write_tree(n, *list, bytes.get_mut(..len)?).ok()?;

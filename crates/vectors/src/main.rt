@@ -7,7 +7,7 @@ use std::io;
 use std::rt::Files;
 use walker::Found;
 
-// What a walker says at a place; the place behind a record, where it goes on.
+// What a walker says at a place; the place behind a record, where it goes on, and none where it stops.
 fn step(rt: &impl Print, file: &[u8], place: usize) -> io::Result<Option<usize>> {
     match walker::step_at(file, place) {
         Ok(

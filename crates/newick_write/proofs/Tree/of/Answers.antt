@@ -35,7 +35,7 @@ filled-requires-2 c =
 pub invariant_of-result : goal.invariant_of-result
 invariant_of-result c = record {
   few = c.requires.0;
-  sized = search rules;
+  sized = (search rules, search rules);
   well = c.requires.1;
   whole = c.requires.2;
   linked = record {
