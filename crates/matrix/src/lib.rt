@@ -2,7 +2,7 @@
 // Document 01, "Scores and splits" and "Refusal numbers".
 #![tactic(auto)]
 
-ghost use Rattle.std.specs.Prelude.{◌+◌, ◌*◌, ◌≤◌, ◌<◌, min, ◌≡◌, pos, ℕ, [], ◌∷◌, IfOk};
+ghost use Rattle.std.specs.Prelude.{◌+◌, ◌*◌, ◌≤◌, ◌<◌, min, ◌≡◌, pos, ℕ, [], ◌∷◌, length, get_or, IfOk};
 ghost use Rattle.std.proofs.Math.IntN.{sub_ℕ};
 ghost use Rattle.std.specs.Int.Signed.{lt_z};
 ghost use Rattle.statement.specs.Matrix.{AcceptedMatrix, distance, distance_limit, score};
@@ -87,6 +87,15 @@ impl<'a> Matrix<'a> {
         ensures { (result ≡ distances self.now i j) × (result ≤ distance_limit) }
     {
         self.entries[i * self.n + j]
+    }
+
+    // The distances of one taxon, by the other.
+    pub fn row(&self, i: usize) -> &'a [u32]
+        requires { i < self.now.n }
+        ensures long { length result.now ≡ self.now.n }
+        ensures each { (j : ℕ) → j < self.now.n → (get_or result.now j 0 ≡ distances self.now i j) × (get_or result.now j 0 ≤ distance_limit) }
+    {
+        &self.entries[i * self.n..(i + 1) * self.n]
     }
 
     // Score: for a pairing wx|yz the lesser of wy + xz and wz + xy, less (wx + yz).

@@ -5,7 +5,8 @@ use native.Mathlib.Decide.{dec_lt, ℕ_discrete}
 use mathlib.Core.Path.{◌≡◌, sym, subst}
 use mathlib.Core.Logic.{◌≢◌, ◌↔◌}
 use mathlib.Core.List.{List}
-use lib.ListN.{length, get_or, set}
+use lib.ListN.{length, get_or, set, take}
+use Rattle.std.proofs.lemmas.List.{get_or-take, length-take, length-take-le}
 use lib.IntN.{sub_ℕ}
 use Rattle.statement.specs.Cluster.{Pair}
 use Rattle.statement.specs.Matrix.{distance, AcceptedMatrix}
@@ -21,7 +22,7 @@ use Rattle.matrix.proofs.Signs.{lowered_at}
 use Rattle.neighbours.specs.Reach.{Reach}
 use Rattle.neighbours.proofs.Reaches.{reach_cap, half}
 use Rattle.matrix_trial.specs.Separated.{Under, Pairs, Paired, Reached, Halves, AllX, Paired_up, Partners, Swept}
-use Rattle.matrix_trial.proofs.Sides.{pair_up, up_pair, partners_up}
+use Rattle.matrix_trial.proofs.Sides.{pair_up, up_pair, partners_up, partners_most}
 
 pub reached_turn : (d : ℕ → ℕ → ℕ) (k a c : ℕ) (taxa reaches : List ℕ) (m r : ℕ) → Reached d k a c taxa reaches m → m < length reaches
     → Reach d k k a c (get_or taxa m 0) r → Reached d k a c taxa (set reaches m r) (m + 1)
@@ -43,6 +44,18 @@ paired_turn d a z rz taxa reaches m {low} {v} {next} p e en = record { least = �
 
     back : (s : ℕ) → (s ≤ 4000000) × ((j : ℕ) → j < m + 1 → Under d a (get_or taxa j 0) z (get_or reaches j 0) rz s) → s ≤ next
     back s h = omega (arith, en, (p.least s).1 (h.0, λ j l. h.1 j (omega arith)), (e s).1 (h.1 m (omega arith)))
+
+-- over the first m taxa, cut off
+paired_part : (d : ℕ → ℕ → ℕ) (a z rz : ℕ) (taxa reaches : List ℕ) (m low : ℕ) → m ≤ length taxa
+    → Paired d a z rz (take m taxa) (take m reaches) (length (take m taxa)) low → Paired d a z rz taxa reaches m low
+paired_part d a z rz taxa reaches m low few p =
+    let long = length-take-le m taxa few in
+    record {
+      least = λ s. (
+        (λ h. let q = (p.least s).0 h in (q.0, λ j l. rw (get_or-take m taxa j 0 l, get_or-take m reaches j 0 l) at (q.1 j (omega (arith, long))))),
+        (λ h. (p.least s).1 (h.0, λ j l. let lj : j < m = omega (arith, long) in rw (get_or-take m taxa j 0 lj, get_or-take m reaches j 0 lj) (h.1 j lj))),
+      );
+    }
 
 -- THE TRIAL
 module _ (n : ℕ) (entries : List ℕ) (accepted : AcceptedMatrix n entries) (k a c : ℕ) (lk : k ≤ n) (la : a < k) where
@@ -177,3 +190,29 @@ module _ (n : ℕ) (entries : List ℕ) (accepted : AcceptedMatrix n entries) (k
           go (yes l) =
               let p = (trial_means n (distance n entries) k a c w 1 (omega arith)).0 (omega arith) in
               absurd (omega (arith, e, (s.least 1 (omega arith)).1 (p.0, λ g j lg u. anchored_pairs 1 p.1 g j (omega arith) u)))
+
+  -- A TURN of the sweep: one reach more is stored, and the partners of its taxon lower the weight
+  module _ (taxa reaches : List ℕ) (i m : ℕ) {rz : ℕ} (members : Members k a c taxa (length taxa)) (long : length reaches ≡ 64) (li : i < length taxa)
+      (partners : Partners (length taxa) i m) (reach : Reach (distance n entries) k k a c (get_or taxa i 0) rz)
+      (reached : Reached (distance n entries) k a c taxa reaches i) where
+    few : m ≤ i + 1
+    few = partners_most (length taxa) i m partners
+
+    stored_one : Reached (distance n entries) k a c taxa (set reaches i rz) (i + 1)
+    stored_one = reached_turn (distance n entries) k a c taxa reaches i rz reached (omega (arith, members.few, accepted.few)) reach
+
+    pub partners_within : (j : ℕ) → j < length (take m taxa) → (get_or (take m taxa) j 0 < n) × (get_or (take m (set reaches i rz)) j 0 ≤ 2000000)
+    partners_within j l =
+        let lj : j < m = omega (arith, length-take m taxa) in
+        rw (get_or-take m taxa j 0 lj, get_or-take m (set reaches i rz) j 0 lj)
+        (omega (arith, (members.each j (omega (arith, few))).0), reach_cap (stored_one j (omega (arith, few))))
+
+    pub swept_on : {w best low next : ℕ} → Swept (distance n entries) k a c taxa (length taxa) w i best
+        → Paired (distance n entries) a (get_or taxa i 0) rz (take m taxa) (take m (set reaches i rz)) (length (take m taxa)) low
+        → (m ≡ 0 → next ≡ best) × (m ≢ 0 → next ≡ min (above (sub_ℕ low 2000000)) best)
+        → Reached (distance n entries) k a c taxa (set reaches i rz) (i + 1) × Swept (distance n entries) k a c taxa (length taxa) w (i + 1) next
+    swept_on {w} {best} {low} {next} swept paired lowered = (
+      stored_one,
+      swept_turn taxa (length taxa) w (set reaches i rz) i m members li partners reach stored_one swept
+          (paired_part (distance n entries) a (get_or taxa i 0) rz taxa (set reaches i rz) m low (omega (arith, few)) paired) lowered,
+    )

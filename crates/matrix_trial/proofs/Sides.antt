@@ -96,19 +96,23 @@ partners_most count i m p = go (ℕ_discrete count 1)
     go (yes e) = omega (arith, p.one e)
     go (no e) = omega (arith, p.more e)
 
+pub partners_room : {k n a c count : ℕ} {taxa : List ℕ} (i m : ℕ) → Members k a c taxa count → k ≤ n → n ≤ 64 → i < count → Partners count i m → (m ≤ count) × (m ≤ 64)
+partners_room {count = count} i m members lk ln li p = let l = partners_most count i m p in (omega arith, omega (arith, members.few))
+
 -- THE WAYS OUT of a trial, by the number of taxa that are listed
 module _ (n : ℕ) (entries : List ℕ) (accepted : AcceptedMatrix n entries) (k a c w : ℕ) (lk : k ≤ n) (la : a < k) (taxa : List ℕ) (count : ℕ)
     (members : Members k a c taxa count) where
-  pub trial_more : {r : ℕ} → count ≢ 1 → r ≡ pair_trial (distance n entries) k a c w → r ≡ matrix_trial (distance n entries) k a c w
+  trial_more : {r : ℕ} → count ≢ 1 → r ≡ pair_trial (distance n entries) k a c w → r ≡ matrix_trial (distance n entries) k a c w
   unfolding matrix_trial
   trial_more ne e = e ∙ ap (λ (v : ℕ). pair_trial (distance n entries) k v c w) (sym (looked_self k a c taxa count members la ne))
 
-  pub trial_two : {r : ℕ} → k < 3 → r ≡ pair_trial (distance n entries) k a c w → r ≡ matrix_trial (distance n entries) k a c w
-  trial_two {r} two e = go (ℕ_discrete count 1)
+  pub trial_pairs : {r : ℕ} → (2 < k → count ≢ 1) → r ≡ pair_trial (distance n entries) k a c w → r ≡ matrix_trial (distance n entries) k a c w
+  trial_pairs {r} asked e = go (ℕ_discrete count 1) (dec_lt 2 k)
     where
-      go : Dec (count ≡ 1) → r ≡ matrix_trial (distance n entries) k a c w
-      go (yes one) = e ∙ trial_alone n entries accepted k a c w a lk la (two_alone k a c taxa count members la two one)
-      go (no ne) = trial_more ne e
+      go : Dec (count ≡ 1) → Dec (2 < k) → r ≡ matrix_trial (distance n entries) k a c w
+      go (yes one) (yes l) = absurd (asked l one)
+      go (yes one) (no l) = e ∙ trial_alone n entries accepted k a c w a lk la (two_alone k a c taxa count members la (omega arith) one)
+      go (no ne) _ = trial_more ne e
 
   pub trial_one : {r : ℕ} (lone : List ℕ) → 3 ≤ k → count ≡ 1 → Kept (distance n entries) k k lone → r ≡ min (get_or lone (get_or taxa 0 0) 0) w
       → r ≡ matrix_trial (distance n entries) k a c w

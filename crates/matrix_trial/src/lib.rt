@@ -6,7 +6,7 @@ ghost use Rattle.std.specs.Prelude.{ℕ, ◌+◌, ◌^◌, ◌≤◌, ◌<◌, m
 ghost use Rattle.std.proofs.Math.IntN.{sub_ℕ};
 ghost use Rattle.statement.specs.Growing.{above, pair_trial, matrix_trial};
 ghost use Rattle.matrix.specs.Distances.{distances};
-ghost use Rattle.neighbours.specs.Seen.{AllOthers, AllPulls};
+ghost use Rattle.neighbours.specs.Seen.{AllPulls};
 ghost use Rattle.lone_weights.specs.Lone.{Kept};
 ghost use Rattle.matrix_trial.specs.Separated.{Pairs, Paired, Partners};
 
@@ -24,23 +24,15 @@ fn pair(m: &Matrix, a: usize, y: usize, z: usize, ry: u32, rz: u32) -> u32
     ay_z.min(az_y) + 1000000 - m.at(z, y)
 }
 
-// The same, its least over the first `count` listed taxa y.
-fn pairs(
-    m: &Matrix,
-    a: usize,
-    z: usize,
-    rz: u32,
-    count: usize,
-    taxa: &[usize],
-    reaches: &[u32; 64],
-) -> u32
-    requires within { (a < m.now.n) × (z < m.now.n) × (rz ≤ 2000000) × (count ≤ length taxa.now) × (count ≤ 64) }
-    requires by_index { (j : ℕ) → j < count → (get_or taxa.now j 0 < m.now.n) × (get_or reaches.now j 0 ≤ 2000000) }
-    ensures { Paired (distances m.now) a z rz taxa.now reaches.now count result }
+// The same, its least over the listed taxa y, each with its reach.
+fn pairs(m: &Matrix, a: usize, z: usize, rz: u32, taxa: &[usize], reaches: &[u32]) -> u32
+    requires within { (a < m.now.n) × (z < m.now.n) × (rz ≤ 2000000) × (length taxa.now ≡ length reaches.now) }
+    requires by_index { (j : ℕ) → j < length taxa.now → (get_or taxa.now j 0 < m.now.n) × (get_or reaches.now j 0 ≤ 2000000) }
+    ensures { Paired (distances m.now) a z rz taxa.now reaches.now (length taxa.now) result }
 {
     let mut low = 4000000;
-    for j in 0..count {
-        low = low.min(pair(m, a, taxa[j], z, reaches[j], rz));
+    for (y, ry) in taxa.iter().zip(reaches) {
+        low = low.min(pair(m, a, *y, z, *ry, rz));
     }
     low
 }
@@ -66,17 +58,24 @@ fn lowered_over(best: u32, m: usize, low: u32) -> u32
 
 // A trial over the taxa of the other side: the scores of ax|yz for each z and the y listed before it (a lone z with itself), given up at the first
 // that is not above zero.
-fn sweep(seen: &Seen, others: &[usize], pull: &[u32; 64], w: u32) -> u32
-    requires { AllOthers seen.now others.now × AllPulls seen.now pull.now }
+fn sweep(seen: &Seen, pull: &[u32; 64], w: u32) -> u32
+    requires { AllPulls seen.now pull.now }
     ensures { result ≡ pair_trial (distances seen.now.matrix) seen.now.k seen.now.a seen.now.c w }
 {
     let mut reaches = [0; 64];
     let mut best = w;
-    for (i, z) in others.iter().enumerate() {
+    for (i, z) in seen.others.iter().enumerate() {
         let rz = seen.reach(*z, pull);
         reaches[i] = rz;
-        let m = partners(others.len(), i);
-        let low = pairs(&seen.matrix, seen.a, *z, rz, m, others, &reaches);
+        let m = partners(seen.others.len(), i);
+        let low = pairs(
+            &seen.matrix,
+            seen.a,
+            *z,
+            rz,
+            &seen.others[..m],
+            &reaches[..m],
+        );
         best = lowered_over(best, m, low);
         if best == 0 {
             return 0;
@@ -85,20 +84,19 @@ fn sweep(seen: &Seen, others: &[usize], pull: &[u32; 64], w: u32) -> u32
     best
 }
 
-// A trial of a split over its fours ax|yz that include a, given the taxa of the other side: 0 where some score is zero or below, else the least of w
-// and the scores.
-fn listed_trial(seen: &Seen, near: usize, others: &[usize], w: u32) -> u32
-    requires { (near < seen.now.k) × AllOthers seen.now others.now }
+// A trial of a split over its fours ax|yz that include a: 0 where some score is zero or below, else the least of w and the scores.
+fn listed_trial(seen: &Seen, near: usize, w: u32) -> u32
+    requires { near < seen.now.k }
     ensures { result ≡ pair_trial (distances seen.now.matrix) seen.now.k seen.now.a seen.now.c w }
 {
-    if seen.fails_first(near, others) {
+    if seen.fails_first(near) {
         return 0;
     }
     let pull = seen.pulls();
-    if seen.fails_near(near, others, &pull) {
+    if seen.fails_near(near, &pull) {
         return 0;
     }
-    sweep(seen, others, &pull, w)
+    sweep(seen, &pull, w)
 }
 
 // The taxon that is the whole cluster c, of three taxa or more.
@@ -120,17 +118,15 @@ pub fn trial(m: &Matrix, k: usize, a: usize, near: usize, lone: &[u32; 64], c: u
     }
     let mut taxa = [0; 64];
     let others = members(k, a, c, &mut taxa);
+    if k > 2 && others.len() == 1 {
+        return lone[others[0]].min(w);
+    }
     let seen = Seen {
         matrix: *m,
         k,
         a,
         c,
+        others,
     };
-    if k < 3 {
-        return listed_trial(&seen, near, others, w);
-    }
-    if others.len() == 1 {
-        return lone[others[0]].min(w);
-    }
-    listed_trial(&seen, near, others, w)
+    listed_trial(&seen, near, w)
 }

@@ -1,13 +1,15 @@
 -- A look ahead: the taxa of the other side, and what ends a trial. Assumes nothing.
 use Prim.Native.Nat.{ℕ, ◌+◌, ◌≤◌, ◌<◌, min}
 use native.Mathlib.Omega.{arith}
-use native.Mathlib.Decide.{dec_lt}
+use native.Mathlib.Decide.{dec_lt, ℕ_discrete}
 use mathlib.Core.Path.{◌≡◌, sym, ◌∙◌, ap, subst}
-use mathlib.Core.Logic.{◌≢◌}
+use mathlib.Core.Logic.{◌≢◌, ◌⊎◌, inl, inr}
 use mathlib.Core.Bool.{Bool, false}
 use mathlib.Core.List.{List}
 use lib.Dec.{T}
 use lib.ListN.{length, get_or, take}
+use Rattle.std.proofs.Math.Logic.{∥∥₁_elim}
+use Rattle.std.proofs.Props.{props}
 use Rattle.std.proofs.lemmas.List.{get_or_default, length-take, get_or-take}
 use lib.IntN.{ℤ, pos, sub_ℕ}
 use lib.Signed.{◌≤ℤ◌, lt_z}
@@ -16,9 +18,30 @@ use Rattle.statement.specs.Matrix.{distance, AcceptedMatrix, score}
 use Rattle.statement.specs.Growing.{pair_trial}
 use Rattle.statement.proofs.Matrix.{le_sub, of_score, above_zero}
 use Rattle.statement.proofs.Pairs.{trial_means}
+use Rattle.statement.proofs.Reached.{search_below}
+use Rattle.bits.specs.Members.{Members}
 use Rattle.neighbours.specs.Reach.{Own, Reach}
 use Rattle.neighbours.specs.Near.{Others, Fails}
 use Rattle.neighbours.proofs.Reaches.{half}
+
+-- that they are all of it, a ghost field keeps without the place of each, which a search finds again
+pub all_members : (k a c : ℕ) (taxa : List ℕ) (count : ℕ) → ∥ Members k a c taxa count ∥₁ → Members k a c taxa count
+all_members k a c taxa count h =
+    record {
+      few = ∥∥₁_elim h (hlevel props) (λ m. m.few);
+      each = λ j l. ∥∥₁_elim h (hlevel props) (λ m. m.each j l);
+      all = λ y l e. at y l e (search_below (λ j. test (ℕ_discrete (get_or taxa j 0) y)) count);
+      up = λ i j li lj. ∥∥₁_elim h (hlevel props) (λ m. m.up i j li lj);
+    }
+  where
+    test : {i y : ℕ} → Dec (i ≡ y) → (i ≢ y) ⊎ (i ≡ y)
+    test (yes e) = inr e
+    test (no n) = inl n
+
+    at : (y : ℕ) → y < k → bit c y ≢ bit c a → ((j : ℕ) → j < count → get_or taxa j 0 ≢ y) ⊎ ((j : ℕ) × (j < count) × (get_or taxa j 0 ≡ y))
+        → (j : ℕ) × (j < count) × (get_or taxa j 0 ≡ y)
+    at y l e (inr found) = found
+    at y l e (inl none) = absurd (∥∥₁_elim h (hlevel props) (λ m. let (j, lj, same) = m.all y l e in none j lj same))
 
 -- an item of a list of taxa of the other side is one
 pub other_at : (k a c : ℕ) (taxa : List ℕ) → Others k a c taxa (length taxa) → (i x : ℕ) → i < length taxa → x ≡ get_or taxa i x → (x < k) × (bit c x ≢ bit c a)

@@ -1,7 +1,6 @@
 -- What is said of a split as it is seen from a taxon: of its k, a and c, and of its matrix's distances.
 use Rattle.std.specs.Prelude.{ℕ, ◌<◌, ◌≢◌, List, length}
 use Rattle.statement.specs.Cluster.{bit}
-use Rattle.bits.specs.Members.{Members}
 use Rattle.matrix.specs.Distances.{distances}
 use Rattle.neighbours.specs.declared.Seen.{Seen}
 use Rattle.neighbours.specs.Near.{Others, Fails}
@@ -15,12 +14,9 @@ IsOwn s x = Own s.k s.a s.c x
 abbrev pub IsOther : Seen → ℕ → Type 0
 IsOther s y = (y < s.k) × (bit s.c y ≢ bit s.c s.a)
 
--- the taxa are on the other side; and they are all of it, ascending
+-- the taxa are on the other side
 abbrev pub AreOthers : Seen → List ℕ → Type 0
 AreOthers s taxa = Others s.k s.a s.c taxa (length taxa)
-
-abbrev pub AllOthers : Seen → List ℕ → Type 0
-AllOthers s taxa = Members s.k s.a s.c taxa (length taxa)
 
 -- not every score of a four ax|yz is above zero
 abbrev pub SomeFails : Seen → Type 0

@@ -2,8 +2,9 @@
 // Document 02 §3 and §7.
 #![tactic(auto)]
 
-ghost use Rattle.std.specs.Prelude.{◌+◌, ◌≤◌, ◌<◌, ◌≡◌, ◌≢◌, true, false, IfSome};
+ghost use Rattle.std.specs.Prelude.{◌+◌, ◌≤◌, ◌<◌, ◌≡◌, ◌≢◌, true, false, length, IfSome};
 ghost use Rattle.statement.specs.Growing.{alone};
+ghost use Rattle.bits.specs.Members.{Members};
 ghost use Rattle.matrix.specs.Distances.{distances};
 ghost use Rattle.neighbours.specs.Near.{Nearest};
 
@@ -24,19 +25,21 @@ pub fn nearest(m: &Matrix, k: usize) -> usize
     near
 }
 
-// A split c of the first k taxa of a matrix, as it is seen from taxon a.
+// A split c of the first k taxa of a matrix, as it is seen from taxon a, with the taxa of the other side, ascending.
 #[derive(Clone, Copy)]
 pub struct Seen<'a> {
     pub matrix: Matrix<'a>,
     pub k: usize,
     pub a: usize,
     pub c: u64,
+    pub others: &'a [usize],
     pub ghost few: { k ≤ matrix.n },
     pub ghost within: { a < k },
+    pub ghost all: { ∥ Members k a c others.now (length others.now) ∥₁ },
 }
 
 impl<'a> Seen<'a> {
-    ghost use Rattle.neighbours.specs.Seen.{IsOwn, IsOther, AreOthers, AllOthers, SomeFails, Pulled, AllPulls, Reaches};
+    ghost use Rattle.neighbours.specs.Seen.{IsOwn, IsOther, AreOthers, SomeFails, Pulled, AllPulls, Reaches};
 
     // Whether a, x is a pair that a's group gives, where `single` says whether a is alone there.
     fn is_own(&self, single: bool, x: usize) -> bool
@@ -77,8 +80,8 @@ impl<'a> Seen<'a> {
         ensures { Reaches self.now z result }
     {
         let mut low = 2000000;
-        for x in 0..self.k {
-            low = low.min(self.matrix.at(z, x) + pull[x]);
+        for (xz, p) in self.matrix.row(z)[..self.k].iter().zip(pull) {
+            low = low.min(xz + p);
         }
         low
     }
@@ -110,25 +113,25 @@ impl<'a> Seen<'a> {
     }
 
     // A first look, at fours that hold the nearest neighbour, on the other side, and one more taxon of a's group: whether one of them is not supported.
-    pub fn fails_first(&self, near: usize, others: &[usize]) -> bool
-        requires { (near < self.now.k) × AllOthers self.now others.now }
+    pub fn fails_first(&self, near: usize) -> bool
+        requires { near < self.now.k }
         ensures { result ≡ true → SomeFails self.now }
     {
         if same_side(self.c, self.a, near) {
             return false;
         }
         match self.companion() {
-            Some(x) => self.fails_with_xy(x, near, others),
+            Some(x) => self.fails_with_xy(x, near, self.others),
             None => false,
         }
     }
 
     // Whether a four ax|yz with this x, and y and z two of the other side, is not supported.
-    fn fails_with_x(&self, x: usize, others: &[usize]) -> bool
-        requires { (x < self.now.k) × IsOwn self.now x × AllOthers self.now others.now }
+    fn fails_with_x(&self, x: usize) -> bool
+        requires { (x < self.now.k) × IsOwn self.now x }
         ensures { result ≡ true → SomeFails self.now }
     {
-        (0..others.len()).any(|i| self.fails_with_xy(x, others[i], &others[..i]))
+        (0..self.others.len()).any(|i| self.fails_with_xy(x, self.others[i], &self.others[..i]))
     }
 
     // Whether a four ax|yz with these different y and z is not supported by the half of its score that z reaches.
@@ -142,27 +145,27 @@ impl<'a> Seen<'a> {
     }
 
     // Whether a four ax|yz with this z, and y another of the other side, is not supported by the half of its score that z reaches.
-    fn fails_with_z(&self, z: usize, others: &[usize], pull: &[u32; 64]) -> bool
-        requires { IsOther self.now z × AllOthers self.now others.now × AllPulls self.now pull.now }
+    fn fails_with_z(&self, z: usize, pull: &[u32; 64]) -> bool
+        requires { IsOther self.now z × AllPulls self.now pull.now }
         ensures { result ≡ true → SomeFails self.now }
     {
         let rz = self.reach(z, pull);
         let seen = *self;
-        others.iter().any(|y| seen.fails_with_yz(*y, z, rz))
+        seen.others.iter().any(|y| seen.fails_with_yz(*y, z, rz))
     }
 
     // A look at the fours that hold the nearest neighbour: whether one of them is not supported.
-    pub fn fails_near(&self, near: usize, others: &[usize], pull: &[u32; 64]) -> bool
-        requires { (near < self.now.k) × AllOthers self.now others.now × AllPulls self.now pull.now }
+    pub fn fails_near(&self, near: usize, pull: &[u32; 64]) -> bool
+        requires { (near < self.now.k) × AllPulls self.now pull.now }
         ensures { result ≡ true → SomeFails self.now }
     {
         if near == self.a {
             return false;
         }
         if same_side(self.c, self.a, near) {
-            self.fails_with_x(near, others)
+            self.fails_with_x(near)
         } else {
-            self.fails_with_z(near, others, pull)
+            self.fails_with_z(near, pull)
         }
     }
 }

@@ -49,13 +49,14 @@ fn put_next(old: &Splits, from: usize, c: u64, w: u32, list: &mut Splits) -> usi
     }
 }
 
-// The trivial splits of k taxa, k of them but for two taxa, which have one: the number of the first, and the cluster of the one numbered i.
+// The number of the first trivial split of k taxa, of which there are k but for two taxa, which have one.
 fn first(k: usize) -> usize
     ensures { result ≡ first_of k }
 {
     if k == 2 { 2 } else { 1 }
 }
 
+// The cluster of the trivial split numbered i.
 fn trivial(k: usize, i: usize) -> u64
     requires { (k < 64) × (1 ≤ k) × (i ≤ k) }
     ensures { result ≡ trivial_at k i }

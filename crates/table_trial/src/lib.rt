@@ -43,29 +43,27 @@ impl Sets {
         }
     }
 
-    // The bytes of the fours i<j<l<x for each i, from this place on.
-    fn mark_row(&mut self, table: &Table, x: usize, j: usize, l: usize, at: usize)
-        requires { (j < l) × (l < x) × (x < table.now.n) × (at ≡ choose j 2 + choose l 3 + choose x 4) × Filled table.now.bytes.now x (l * 4096 + j * 64) self.old.pairs }
+    // The bytes of the fours i<j<l<x for each i. Those with this l and x begin at the place `from`.
+    fn mark_row(&mut self, table: &Table, x: usize, j: usize, l: usize, from: usize)
+        requires { (j < l) × (l < x) × (x < table.now.n) × (from ≡ choose l 3 + choose x 4) × Filled table.now.bytes.now x (l * 4096 + j * 64) self.old.pairs }
         ensures { Filled table.now.bytes.now x (l * 4096 + (j + 1) * 64) self.new.pairs }
     {
         let below = binomial(j, 2);
         let above = binomial(l, 2);
         for i in 0..j {
-            self.mark(table.bytes[at + i], i, j, l, below, above);
+            self.mark(table.bytes[from + below + i], i, j, l, below, above);
         }
     }
 
-    // The same for each j, from this place on. Gives the next place.
-    fn mark_rows(&mut self, table: &Table, x: usize, l: usize, from: usize) -> usize
-        requires { (2 ≤ l) × (l < x) × (x < table.now.n) × (from ≡ choose l 3 + choose x 4) × Filled table.now.bytes.now x (l * 4096 + 64) self.old.pairs }
-        ensures { (result ≡ choose (l + 1) 3 + choose x 4) × Filled table.now.bytes.now x ((l + 1) * 4096 + 64) self.new.pairs }
+    // The same for each j.
+    fn mark_rows(&mut self, table: &Table, x: usize, l: usize)
+        requires { (2 ≤ l) × (l < x) × (x < table.now.n) × Filled table.now.bytes.now x (l * 4096 + 64) self.old.pairs }
+        ensures { Filled table.now.bytes.now x ((l + 1) * 4096 + 64) self.new.pairs }
     {
-        let mut at = from;
+        let from = binomial(l, 3) + fours(x);
         for j in 1..l {
-            self.mark_row(table, x, j, l, at);
-            at += j;
+            self.mark_row(table, x, j, l, from);
         }
-        at
     }
 
     // The sets of the newcomer x, from its stretch of the table.
@@ -74,9 +72,8 @@ impl Sets {
         ensures { Prepared table.now.bytes.now x self.new.pairs }
     {
         self.pairs = [0; 2016];
-        let mut at = fours(x);
         for l in 2..x {
-            at = self.mark_rows(table, x, l, at);
+            self.mark_rows(table, x, l);
         }
     }
 

@@ -12,6 +12,3 @@ pub returns-then-fails_near : goal.returns-then-fails_near
 returns-then-fails_near c =
     let s = c.args.seen.now in
     fails_zero s.matrix.n (distances s.matrix) s.k s.a s.c c.args.w (c.fails_near.ensures c.if-fails_near.true)
-
-pub sweep-requires : goal.sweep-requires
-sweep-requires c = (c.requires.1, c.pulls-pull.ensures)

@@ -8,5 +8,6 @@ use Rattle.matrix_trial.proofs.sweep.Given as goal
 abbrev pub invariant-loop-i : goal.invariant-loop-i
 invariant-loop-i l =
     let s = l.seen in
-    (length l.reaches ≡ 64) × Reached (distances s.matrix) s.k s.a s.c l.others l.reaches l.i
-    × Swept (distances s.matrix) s.k s.a s.c l.others (length l.others) l.w l.i l.best
+    let others = s.others.now in
+    (length l.reaches ≡ 64) × Reached (distances s.matrix) s.k s.a s.c others l.reaches l.i
+    × Swept (distances s.matrix) s.k s.a s.c others (length others) l.w l.i l.best
