@@ -46,16 +46,25 @@ pub fn single(k: usize) -> u64
     1 << k
 }
 
-// The taxa of the first k on the other side than a, in order: the first numbers of `taxa`.
-pub fn members(k: usize, a: usize, c: u64, taxa: &mut [usize; 64]) -> &[usize]
+// The taxa of the first k on the other side than a, in order: the first numbers of `taxa`, as many as this gives.
+pub fn members(k: usize, a: usize, c: u64, taxa: &mut [usize; 64]) -> usize
     requires { (k ≤ 64) × (a < 64) }
-    ensures { Members k a c result.now (length result.now) }
+    ensures { Members k a c taxa.new result }
 {
     let mut count = 0;
     for y in 0..k {
         taxa[count] = y;
         count += usize::from(!same_side(c, a, y));
     }
+    count
+}
+
+// The same as a slice.
+pub fn others(k: usize, a: usize, c: u64, taxa: &mut [usize; 64]) -> &[usize]
+    requires { (k ≤ 64) × (a < 64) }
+    ensures { Members k a c result.now (length result.now) }
+{
+    let count = members(k, a, c, taxa);
     &taxa[..count]
 }
 

@@ -1,8 +1,14 @@
 -- What growth asks of a source, and what its steps hand on.
-use Rattle.std.specs.Prelude.{ℕ, suc, ◌^◌, ◌≤◌, ◌<◌, ◌≡◌, length}
+use Rattle.std.specs.Prelude.{ℕ, suc, ◌^◌, ◌≤◌, ◌<◌, ◌≡◌, cond, eqb, length}
 use Rattle.statement.specs.declared.Splits.{Splits}
+use Rattle.statement.specs.Matrix.{weight_limit}
+use Rattle.statement.specs.Table.{table_weight}
 use Rattle.statement.specs.Rows.{clusters, rows_of, list_of, Ascending, WellFormed}
 use Rattle.statement.specs.Growing.{Manner, enlarged, larger, trials_at}
+
+-- the most that a split can weigh in a source of this kind (document 01's record kinds: 1 matrix, else table)
+abbrev pub most_by : ℕ → ℕ
+most_by kind = cond (eqb kind 1) weight_limit table_weight
 
 -- a source of n taxa grows in a manner that keeps lists well-formed and within their room: of a well-formed list with a taxon left to add, what is
 -- extended ascends and has room, and so does the list with one taxon more; and 7,751 trials cover the whole run

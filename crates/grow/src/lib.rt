@@ -9,7 +9,7 @@ ghost use Rattle.statement.specs.Replies.{growth_said};
 ghost use Rattle.splits_list.specs.Pushed.{appended};
 ghost use Rattle.lone_weights.specs.Lone.{Kept};
 ghost use Rattle.table_trial.specs.Sets.{Prepared};
-ghost use Rattle.grow.specs.Source.{Grows, Extended, with_taxon};
+ghost use Rattle.grow.specs.Source.{Grows, Extended, with_taxon, most_by};
 ghost use Rattle.grow.specs.Lawful.{matrix_grows, table_grows};
 ghost use Rattle.grow.specs.Raised.{raised};
 
@@ -20,6 +20,13 @@ use splits_list::{empty, push};
 use statement::{Ending, Grown, Splits};
 use table::Table;
 use table_trial::Sets;
+
+// The most that a split can weigh in a source of this kind (document 01's record kinds: 1 matrix, else table).
+pub fn most(kind: u8) -> u32
+    ensures { result ≡ most_by kind }
+{
+    if kind == 1 { 2000000 } else { 1 }
+}
 
 // What growth goes by: its taxa, its trials and what it extends.
 pub trait Source {

@@ -15,7 +15,8 @@ fn run_body(n: usize, body: &[u8]) -> Result<Grown, Refusal>
     ensures { growth_said (empty_list 0) result ≡ run_matrix n (from_bytes body.now) }
 {
     let count = n * n;
-    let words = words::words_of(count, body);
+    let mut words = [0; 4096];
+    words::read_words(count, body, &mut words);
     run::run_matrix(n, &words[..count])
 }
 

@@ -10,7 +10,7 @@ ghost use Rattle.neighbours.specs.Seen.{AllPulls};
 ghost use Rattle.lone_weights.specs.Lone.{Kept};
 ghost use Rattle.matrix_trial.specs.Separated.{Pairs, Paired, Partners};
 
-use bits::{members, single};
+use bits::{others, single};
 use matrix::{Matrix, lowered_by};
 use neighbours::Seen;
 
@@ -117,7 +117,7 @@ pub fn trial(m: &Matrix, k: usize, a: usize, near: usize, lone: &[u32; 64], c: u
         return lone[v].min(w);
     }
     let mut taxa = [0; 64];
-    let others = members(k, a, c, &mut taxa);
+    let others = others(k, a, c, &mut taxa);
     if k > 2 && others.len() == 1 {
         return lone[others[0]].min(w);
     }

@@ -4,7 +4,7 @@ use Rattle.statement.specs.Cluster.{bit}
 use Rattle.matrix.specs.Distances.{distances}
 use Rattle.neighbours.specs.declared.Seen.{Seen}
 use Rattle.neighbours.specs.Near.{Others, Fails}
-use Rattle.neighbours.specs.Reach.{Own, Pull, Pulls, Reach}
+use Rattle.neighbours.specs.Reach.{Own, Pulls, Reach}
 
 -- x is another taxon of a's group, or a where it is the only one
 abbrev pub IsOwn : Seen → ℕ → Type 0
@@ -23,9 +23,6 @@ abbrev pub SomeFails : Seen → Type 0
 SomeFails s = Fails (distances s.matrix) s.k s.a s.c
 
 -- the pulls of the taxa of a's side, and the reach of z by them
-abbrev pub Pulled : Seen → ℕ → ℕ → Type 0
-Pulled s x p = Pull (distances s.matrix) s.k s.a s.c x p
-
 abbrev pub AllPulls : Seen → List ℕ → Type 0
 AllPulls s pull = Pulls (distances s.matrix) s.k s.k s.a s.c pull
 

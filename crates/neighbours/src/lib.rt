@@ -6,6 +6,7 @@ ghost use Rattle.std.specs.Prelude.{◌+◌, ◌≤◌, ◌<◌, ◌≡◌, ◌�
 ghost use Rattle.statement.specs.Growing.{alone};
 ghost use Rattle.bits.specs.Members.{Members};
 ghost use Rattle.matrix.specs.Distances.{distances};
+ghost use Rattle.neighbours.specs.Reach.{Own, Pull, Pulls, Reach};
 ghost use Rattle.neighbours.specs.Near.{Nearest};
 
 use bits::{beside, is_alone, is_pair, same_side, side_of};
@@ -25,6 +26,51 @@ pub fn nearest(m: &Matrix, k: usize) -> usize
     near
 }
 
+// Whether a, x is a pair that a's group gives, where `single` says whether a is alone there.
+fn is_own(k: usize, a: usize, c: u64, single: bool, x: usize) -> bool
+    requires { (k ≤ 64) × (a < 64) × (x < 64) × (single ≡ alone k c a) }
+    ensures { (result ≡ true → Own k a c x) × (result ≡ false → Own k a c x → ⊥) }
+{
+    same_side(c, a, x) && is_pair(single, a, x)
+}
+
+// A million less ax where a, x is a pair of its group; three million, which no least comes to, where it is not.
+fn pull(m: &Matrix, k: usize, a: usize, c: u64, single: bool, x: usize) -> u32
+    requires { (k ≤ m.now.n) × (a < m.now.n) × (x < m.now.n) × (single ≡ alone k c a) }
+    ensures { Pull (distances m.now) k a c x result }
+{
+    let ax = m.at(a, x);
+    if is_own(k, a, c, single, x) {
+        1000000 - ax
+    } else {
+        3000000
+    }
+}
+
+// The same for each of the first k taxa.
+pub fn pulls(m: &Matrix, k: usize, a: usize, c: u64, single: bool) -> [u32; 64]
+    requires { (k ≤ m.now.n) × (a < m.now.n) × (single ≡ alone k c a) }
+    ensures { Pulls (distances m.now) k k a c result }
+{
+    let mut all = [0; 64];
+    for x in 0..k {
+        all[x] = pull(m, k, a, c, single, x);
+    }
+    all
+}
+
+// The least of xz less ax over the x that are a pair with a, raised by a million.
+pub fn reach(m: &Matrix, k: usize, a: usize, c: u64, z: usize, pull: &[u32; 64]) -> u32
+    requires { (k ≤ m.now.n) × (z < m.now.n) × Pulls (distances m.now) k k a c pull.now }
+    ensures { Reach (distances m.now) k k a c z result }
+{
+    let mut low = 2000000;
+    for (xz, p) in m.row(z)[..k].iter().zip(pull) {
+        low = low.min(xz + p);
+    }
+    low
+}
+
 // A split c of the first k taxa of a matrix, as it is seen from taxon a, with the taxa of the other side, ascending.
 #[derive(Clone, Copy)]
 pub struct Seen<'a> {
@@ -39,51 +85,22 @@ pub struct Seen<'a> {
 }
 
 impl<'a> Seen<'a> {
-    ghost use Rattle.neighbours.specs.Seen.{IsOwn, IsOther, AreOthers, SomeFails, Pulled, AllPulls, Reaches};
+    ghost use Rattle.neighbours.specs.Seen.{IsOwn, IsOther, AreOthers, SomeFails, AllPulls, Reaches};
 
-    // Whether a, x is a pair that a's group gives, where `single` says whether a is alone there.
-    fn is_own(&self, single: bool, x: usize) -> bool
-        requires { (x < self.now.k) × (single ≡ alone self.now.k self.now.c self.now.a) }
-        ensures { (result ≡ true → IsOwn self.now x) × (result ≡ false → IsOwn self.now x → ⊥) }
-    {
-        same_side(self.c, self.a, x) && is_pair(single, self.a, x)
-    }
-
-    // A million less ax where a, x is a pair of its group; three million, which no least comes to, where it is not.
-    fn pull(&self, single: bool, x: usize) -> u32
-        requires { (x < self.now.k) × (single ≡ alone self.now.k self.now.c self.now.a) }
-        ensures { Pulled self.now x result }
-    {
-        let ax = self.matrix.at(self.a, x);
-        if self.is_own(single, x) {
-            1000000 - ax
-        } else {
-            3000000
-        }
-    }
-
-    // The same for each of the first k taxa.
+    // What each of the first k taxa pulls.
     pub fn pulls(&self) -> [u32; 64]
         ensures { AllPulls self.now result }
     {
         let single = is_alone(self.k, self.c, self.a);
-        let mut all = [0; 64];
-        for x in 0..self.k {
-            all[x] = self.pull(single, x);
-        }
-        all
+        pulls(&self.matrix, self.k, self.a, self.c, single)
     }
 
-    // The least of xz less ax over the x that are a pair with a, raised by a million.
+    // The reach of z by these pulls.
     pub fn reach(&self, z: usize, pull: &[u32; 64]) -> u32
         requires { (z < self.now.matrix.n) × AllPulls self.now pull.now }
         ensures { Reaches self.now z result }
     {
-        let mut low = 2000000;
-        for (xz, p) in self.matrix.row(z)[..self.k].iter().zip(pull) {
-            low = low.min(xz + p);
-        }
-        low
+        reach(&self.matrix, self.k, self.a, self.c, z, pull)
     }
 
     // Another taxon of a's group, if there is one below a.

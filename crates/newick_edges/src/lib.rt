@@ -18,7 +18,7 @@ pub struct Met {
 
 // The edges so far: the places of the first that is too heavy and of the first with an empty cluster, and the other clusters. Each of these has
 // one row, with its first edge's weight and place, and whether another edge had it.
-#[derive(Drop)]
+#[derive(Clone, Copy)]
 pub struct Table {
     pub heavy: Option<usize>,
     pub bare: Option<usize>,
@@ -27,7 +27,7 @@ pub struct Table {
     pub weights: [u32; 125],
     pub places: [usize; 125],
     pub many: [bool; 125],
-    ghost room: { rows ≤ 125 },
+    pub ghost room: { rows ≤ 125 },
 }
 
 // The taxon x is below n and not met.

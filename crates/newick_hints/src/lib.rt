@@ -12,8 +12,8 @@ use numerals::{byte_at, is_digit, number_at};
 pub struct Level {
     pub depth: usize,
     pub commas: usize,
-    ghost deep: { depth ≤ 131 },
-    ghost parts: { commas ≤ 2 },
+    pub ghost deep: { depth ≤ 131 },
+    pub ghost parts: { commas ≤ 2 },
 }
 
 impl Level {

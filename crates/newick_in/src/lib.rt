@@ -8,7 +8,7 @@ ghost use Rattle.statement.specs.Calls.{write_tree};
 ghost use Rattle.numerals.specs.Numerals.{numbers_in};
 ghost use Rattle.newick_in.specs.Records.{Covers, IsPrefixLen, record_of_list, record_of_text};
 
-use numerals::{Fault, count, first_wrong, number_of};
+use numerals::{Fault, count, first_fault, number_of};
 use statement::{Kind, Splits};
 use std::io;
 
@@ -16,7 +16,7 @@ use std::io;
 pub fn taxa_in(word: &[u8]) -> Option<usize>
     ensures { IfSome result (λ n. (2 ≤ n) × (n ≤ 64) × (n ≡ get_or (numbers_in word.now) 0 0)) }
 {
-    if first_wrong(Fault::Strange, word) != word.len() || count(word) != 1 {
+    if first_fault(Fault::Strange, word) != word.len() || count(word) != 1 {
         return None;
     }
     let n = number_of(word, 0);
@@ -32,7 +32,7 @@ fn put_record(n: usize, list: Splits, body: &mut [u8], out: &mut [u8])
     ensures { out.new ≡ record_of_list n list }
 {
     tree_write::write_tree(n, list, body).unwrap();
-    record_write::lay_out(Kind::Tree, n as u8, body, out);
+    record_write::lay_out(Kind::Tree.code(), n as u8, body, out);
 }
 
 // The same at the start of a slice, and the record's length.

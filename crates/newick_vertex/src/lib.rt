@@ -1,11 +1,12 @@
 // The Newick text of a vertex, from the arrays that hold its tree, written as far as there is room for it. Document 02, §2.
 #![tactic(auto)]
 
-ghost use Rattle.std.specs.Prelude.{◌≡◌, ◌∷◌, map, ◌≤◌, ◌<◌, eqb, length, unwrap_or, IfSome};
+ghost use Rattle.std.specs.Prelude.{◌≡◌, ◌∷◌, map, ◌+◌, ◌≤◌, ◌<◌, eqb, length, unwrap_or, IfSome};
+ghost use Rattle.std.proofs.lemmas.List.Edits.{sets};
 ghost use Rattle.statement.specs.Decimal.{decimal};
 ghost use Rattle.statement.specs.NewickText.{led, leaf_text, vertex_text};
 ghost use Rattle.newick_digits.specs.Pen.{Fits, Wrote};
-ghost use Rattle.newick_vertex.specs.Arrays.{having, Lone, lead_at};
+ghost use Rattle.newick_vertex.specs.Arrays.{having, Lone, shape_in, lead_at};
 
 use newick_digits::Pen;
 
@@ -102,4 +103,30 @@ impl<'a> Arrays<'a> {
         }
         pen.put(b')');
     }
+}
+
+// A vertex without its weight, from the beginnings of arrays that may be longer: n homes, and m links and weights. What is written starts at a place.
+pub fn vertex(
+    n: usize,
+    m: usize,
+    links: &[usize],
+    homes: &[usize],
+    weights: &[u32],
+    v: usize,
+    out: &mut [u8],
+    at: usize,
+) -> usize
+    requires v_le_m { (v ≤ m) × (m ≤ length links.now) × (m ≤ length weights.now) × (n ≤ length homes.now) × (n ≤ 64) × (m ≤ 125) }
+    requires v_bound { at + length (vertex_text (shape_in n m links.now homes.now weights.now) v) ≤ 1000000 }
+    ensures out_after { out.new ≡ sets out.old at (vertex_text (shape_in n m links.now homes.now weights.now) v) }
+    ensures value { result ≡ at + length (vertex_text (shape_in n m links.now homes.now weights.now) v) }
+{
+    let arrays = Arrays {
+        homes: &homes[..n],
+        links: &links[..m],
+        weights: &weights[..m],
+    };
+    let mut pen = Pen { out, at };
+    arrays.vertex(v, &mut pen);
+    pen.at
 }

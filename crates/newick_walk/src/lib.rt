@@ -13,7 +13,7 @@ use numerals::read_number;
 
 // Where the walk is: the brackets open, the taxa met before each of them was opened, the taxa below the edge whose weight comes next, the taxa met,
 // and the table of the edges.
-#[derive(Drop)]
+#[derive(Clone, Copy)]
 pub struct Walk {
     pub at: usize,
     pub depth: usize,
@@ -25,7 +25,7 @@ pub struct Walk {
 
 impl Walk {
     // Before a text: no brackets, no taxa, no edges.
-    fn new() -> Walk
+    pub fn new() -> Walk
         ensures { walk_in result ≡ begun }
     {
         Walk {
@@ -102,12 +102,12 @@ fn number(t: &[u8], at: usize) -> (u32, usize)
     (u32::try_from(x.value).unwrap_or(u32::MAX), x.behind)
 }
 
-// The walk over the tokens that a text begins with.
-pub fn walk_over(n: usize, t: &[u8]) -> Walk
-    requires { n ≤ 64 }
-    ensures { Walks n t.now begun (walk_in result) }
+// The walk over the tokens that a text begins with, from a start whose arrays, table and marks may be any.
+pub fn walk_on(n: usize, t: &[u8], start: Walk) -> Walk
+    requires { (n ≤ 64) × (start.at ≡ 0) × (start.depth ≡ 0) }
+    ensures { Walks n t.now (walk_in start) (walk_in result) }
 {
-    let mut w = Walk::new();
+    let mut w = start;
     loop {
         match peek(t, w.at) {
             Some(b'(') => w.open(),
@@ -124,4 +124,12 @@ pub fn walk_over(n: usize, t: &[u8]) -> Walk
             _ => return w,
         }
     }
+}
+
+// The walk over the tokens that a text begins with.
+pub fn walk_over(n: usize, t: &[u8]) -> Walk
+    requires { n ≤ 64 }
+    ensures { Walks n t.now begun (walk_in result) }
+{
+    walk_on(n, t, Walk::new())
 }

@@ -39,3 +39,7 @@ number_limit = 4294967295
 abbrev pub wrong_at : Fault → List ℕ → ℕ → Bool
 wrong_at Strange text p = not (digit_at text p) && not (space (get_or text p 0))
 wrong_at TooLarge text p = starts_at text p && ltb number_limit (number_at text p)
+
+-- the fault that a number stands for: 1, a strange byte; any other, a number too large
+abbrev pub coded : ℕ → Fault
+coded code = cond (eqb code 1) Strange TooLarge

@@ -5,7 +5,7 @@
 ghost use Rattle.std.specs.Prelude.{◌+◌, ◌*◌, ◌-◌, ◌≤◌, ◌<◌, min, ◌≡◌, true, length, get_or, drop};
 ghost use Rattle.statement.specs.Lowest.{lowest};
 ghost use Rattle.statement.specs.Decimal.{digit, span};
-ghost use Rattle.numerals.specs.Numerals.{space, starts_at, number_at, starts_in, numbers_in, wrong_at};
+ghost use Rattle.numerals.specs.Numerals.{space, starts_at, number_at, starts_in, numbers_in, wrong_at, coded};
 ghost use Rattle.numerals.specs.Place.{behind, place_of};
 
 use std::fmt;
@@ -40,6 +40,19 @@ pub struct Number {
 pub enum Fault {
     Strange,
     TooLarge,
+}
+
+impl Fault {
+    // The fault that a number stands for: 1, a strange byte; any other, a number too large.
+    pub fn coded(code: u8) -> Fault
+        ensures { result ≡ coded code }
+    {
+        if code == 1 {
+            Fault::Strange
+        } else {
+            Fault::TooLarge
+        }
+    }
 }
 
 pub fn is_digit(b: u8) -> bool
@@ -109,11 +122,18 @@ fn wrong(fault: Fault, text: &[u8], p: usize) -> bool
     }
 }
 
-// The first place where this is wrong, else the end of the text.
-pub fn first_wrong(fault: Fault, text: &[u8]) -> usize
+// The first place with this fault, else the end of the text.
+pub fn first_fault(fault: Fault, text: &[u8]) -> usize
     ensures { result ≡ lowest (wrong_at fault text.now) (length text.now) }
 {
     places::lowest(text.len(), |p| wrong(fault, text, p))
+}
+
+// The same, of the fault that a number stands for.
+pub fn first_wrong(fault: u8, text: &[u8]) -> usize
+    ensures { result ≡ lowest (wrong_at (coded fault) text.now) (length text.now) }
+{
+    first_fault(Fault::coded(fault), text)
 }
 
 // How many numbers the text has.

@@ -65,14 +65,15 @@ impl Taken {
 }
 
 // Whether n taxa allow a body of this length in a record of this kind.
-pub fn length_fits(kind: Kind, n: usize, len: usize) -> bool
+pub fn length_fits(kind: u8, n: usize, len: usize) -> bool
     requires { (2 ≤ n) × (n ≤ 64) }
-    ensures { result ≡ fits_kind kinds (code_of_kind kind) n len }
+    ensures { result ≡ fits_kind kinds kind n len }
 {
-    match kind {
-        Kind::Matrix => len == 4 * (n * n),
-        Kind::Table => len == table::fours(n),
-        Kind::Tree => tree_check::tree_fits(n, len),
+    match Kind::coded(kind) {
+        Some(Kind::Matrix) => len == 4 * (n * n),
+        Some(Kind::Table) => len == table::fours(n),
+        Some(Kind::Tree) => tree_check::tree_fits(n, len),
+        None => false,
     }
 }
 
@@ -111,7 +112,7 @@ pub fn find_record<'a>(bytes: &'a [u8]) -> Result<Record<'a>, Refusal>
         return Err(Reason::Taxa.at(0));
     }
     let len = length_in(bytes);
-    if !length_fits(kind, taxa, len) {
+    if !length_fits(kind.code(), taxa, len) {
         return Err(Reason::Length.at(0));
     }
     let whole = record_length(len);

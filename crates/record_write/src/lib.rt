@@ -26,15 +26,25 @@ fn put_end(len: usize, out: &mut [u8])
     out[end..].copy_from_slice(&sum.wrapping_neg().to_le_bytes());
 }
 
+// The bytes of a body into a stretch as long. One by one: with `copy_from_slice` the archive for C needs `memmove` from outside.
+fn store(body: &[u8], out: &mut [u8])
+    requires { length out.old ≡ length body.now }
+    ensures { out.new ≡ body.now }
+{
+    for i in 0..body.len() {
+        out[i] = body[i];
+    }
+}
+
 // A whole record into a slice of its length: the header, the body, then pad and sum word.
-pub fn lay_out(kind: Kind, n: u8, body: &[u8], out: &mut [u8])
+pub fn lay_out(kind: u8, n: u8, body: &[u8], out: &mut [u8])
     requires { length out.old ≡ record_length (length body.now) }
-    ensures { out.new ≡ record_of (code_of_kind kind) n body.now }
+    ensures { out.new ≡ record_of kind n body.now }
 {
     let len = body.len();
-    out[..4].copy_from_slice(&[0x53, 0x70, kind.code(), n]);
+    out[..4].copy_from_slice(&[0x53, 0x70, kind, n]);
     out[4..8].copy_from_slice(&len.to_le_bytes()[..4]);
-    out[8..8 + len].copy_from_slice(body);
+    store(body, &mut out[8..8 + len]);
     put_end(len, out);
 }
 
@@ -49,7 +59,8 @@ pub fn check_matrix(n: usize, body: &[u8]) -> Result<(), Refusal>
     if body.len() != 4 * count {
         return Err(Reason::Length.at(0));
     }
-    let words = words::words_of(count, body);
+    let mut words = [0; 4096];
+    words::read_words(count, body, &mut words);
     Matrix::read(n, &words[..count]).map(|_| ())
 }
 
@@ -75,6 +86,6 @@ pub fn write_record(kind: u8, n: usize, body: &[u8], out: &mut [u8]) -> Result<(
     if out.len() != record_length(body.len()) {
         return Err(Reason::Output.at(0));
     }
-    lay_out(kind, n as u8, body, out);
+    lay_out(kind.code(), n as u8, body, out);
     Ok(())
 }

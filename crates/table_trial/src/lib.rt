@@ -7,7 +7,7 @@ ghost use Rattle.statement.specs.Table.{choose};
 ghost use Rattle.statement.specs.Growing.{table_trial};
 ghost use Rattle.table_trial.specs.Sets.{put, marked, Filled, Prepared, RowHolds, RowsHold};
 
-use bits::{members, side_of, single};
+use bits::{others, side_of, single};
 use table::{Table, binomial, fours};
 
 // The sets of a newcomer x: for each pair of earlier taxa i<j the taxa that the table joins with x against the two, as a number, at C(j,2) + i.
@@ -102,7 +102,7 @@ impl Sets {
         ensures { (bytes : List ℕ) → Prepared bytes x self.now.pairs → result ≡ table_trial bytes (suc x) x c w }
     {
         let mut room = [0; 64];
-        let taxa = members(x, x, c, &mut room);
+        let taxa = others(x, x, c, &mut room);
         let side = side_of(x, c);
         if !self.rows_hold(side, taxa) {
             return 0;

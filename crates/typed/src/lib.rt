@@ -5,7 +5,7 @@ ghost use Rattle.std.specs.Prelude.{◌+◌, ◌*◌, ◌/◌, ◌%◌, ◌≤�
 ghost use Rattle.statement.specs.Bytes.{to_bytes};
 ghost use Rattle.typed.specs.Typed.{values_in, half, is_full, value_for, entries_of, said_of, body_said, body_written, entry_place, Small, Taken};
 
-use numerals::{count, first_wrong, number_of, start_of};
+use numerals::{count, first_fault, number_of, start_of};
 use tree_write::put_four;
 
 // What is wrong with a text. Places are bytes of the text, from 0.
@@ -55,11 +55,11 @@ pub fn half_of(i: usize) -> usize
 pub fn check(text: &[u8]) -> Result<usize, Mistake>
     ensures { result ≡ said_of text.now }
 {
-    let strange = first_wrong(numerals::Fault::Strange, text);
+    let strange = first_fault(numerals::Fault::Strange, text);
     if strange < text.len() {
         return Err(Mistake::Strange(strange));
     }
-    let large = first_wrong(numerals::Fault::TooLarge, text);
+    let large = first_fault(numerals::Fault::TooLarge, text);
     if large < text.len() {
         return Err(Mistake::TooLarge(large));
     }

@@ -23,14 +23,14 @@ pub returns-then-others-eq1 : goal.returns-then-others-eq1
 returns-then-others-eq1 c =
     let a = c.args in
     let m = a.m.now in
-    trial_one m.n m.entries.now m.accepted a.k a.a a.c a.w c.requires.0 c.requires.1 _ _ c.members-others.ensures a.lone.now c.if-k-gt2.true c.if-others-eq1.true
+    trial_one m.n m.entries.now m.accepted a.k a.a a.c a.w c.requires.0 c.requires.1 _ _ c.others-others.ensures a.lone.now c.if-k-gt2.true c.if-others-eq1.true
     c.requires.3 (search rules)
 
 pub returns : goal.returns
 returns c =
     let a = c.args in
     let m = a.m.now in
-    trial_pairs m.n m.entries.now m.accepted a.k a.a a.c a.w c.requires.0 c.requires.1 _ _ c.members-others.ensures
+    trial_pairs m.n m.entries.now m.accepted a.k a.a a.c a.w c.requires.0 c.requires.1 _ _ c.others-others.ensures
     (λ l one. elim c.else-k-gt2.branch [
       | else-k-gt2-via-then-k-gt2+else-others-eq1 w ↦ w.if-others-eq1.false one
       | else-k-gt2-via-else-k-gt2 w ↦ absurd (omega arith)

@@ -7,5 +7,5 @@ use Rattle.newick_in.proofs.put_record.Goals as goal
 pub returns : goal.returns
 returns c =
     let a = c.args in
-    c.lay_out.ensures
+    (rw c.code.ensures at c.lay_out.ensures)
     ∙ ap (record_of 3 a.n) (c.write_tree.ensures.out_after ∙ body_written_law a.n a.list a.body.now c.requires.1)

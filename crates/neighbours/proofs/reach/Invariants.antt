@@ -2,7 +2,7 @@
 use lib.ListN.{length}
 use Rattle.matrix.specs.Distances.{distances}
 use Rattle.neighbours.specs.Reach.{Reach}
-use Rattle.neighbours.proofs.Seen.reach.Given as goal
+use Rattle.neighbours.proofs.reach.Given as goal
 
 abbrev pub invariant-loop-xz : goal.invariant-loop-xz
-invariant-loop-xz l = Reach (distances l.self.matrix) l.self.k (length l.yielded) l.self.a l.self.c l.z l.low
+invariant-loop-xz l = Reach (distances l.m) l.k (length l.yielded) l.a l.c l.z l.low

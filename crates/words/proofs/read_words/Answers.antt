@@ -1,8 +1,8 @@
--- `words::words_of` meets its contract, a word at a time.
+-- `words::read_words` meets its contract, a word at a time.
 use native.Mathlib.Omega.{arith}
 use lib.ListN.{length-set}
 use Rattle.words.proofs.Laws.{word_more, words_all}
-use Rattle.words.proofs.words_of.Goals as goal
+use Rattle.words.proofs.read_words.Goals as goal
 
 pub loop-e-preserved : goal.loop-e-preserved
 loop-e-preserved c = (
