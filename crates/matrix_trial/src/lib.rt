@@ -57,7 +57,9 @@ fn lowered_over(best: u32, m: usize, low: u32) -> u32
 }
 
 // A trial over the taxa of the other side: the scores of ax|yz for each z and the y listed before it (a lone z with itself), given up at the first
-// that is not above zero.
+// that is not above zero. It stays a function by itself, as `listed_trial` does, for speed: drawn into their callers, their loops ran slower at every
+// second place where a linker may put them.
+#[inline(never)]
 fn sweep(seen: &Seen, pull: &[u32; 64], w: u32) -> u32
     requires { AllPulls seen.now pull.now }
     ensures { result ≡ pair_trial (distances seen.now.matrix) seen.now.k seen.now.a seen.now.c w }
@@ -85,6 +87,7 @@ fn sweep(seen: &Seen, pull: &[u32; 64], w: u32) -> u32
 }
 
 // A trial of a split over its fours ax|yz that include a: 0 where some score is zero or below, else the least of w and the scores.
+#[inline(never)]
 fn listed_trial(seen: &Seen, near: usize, w: u32) -> u32
     requires { near < seen.now.k }
     ensures { result ≡ pair_trial (distances seen.now.matrix) seen.now.k seen.now.a seen.now.c w }

@@ -1,11 +1,16 @@
--- The common group is compared with nothing and with either cluster: conflict by the mask.
+-- The common group is compared with nothing and with the lesser cluster, both by one test: conflict by the mask.
 use native.Mathlib.Omega.{arith}
-use Rattle.std.proofs.lemmas.Grind.{common_steps}
-use Rattle.splits_list.proofs.Checks.{conflicts_law}
+use mathlib.Core.Path.{sym}
+use Rattle.std.proofs.lemmas.Bool.{ltb_from_iff}
+use Rattle.std.proofs.lemmas.Nat.{and_le_l}
+use Rattle.splits_list.proofs.Checks.{conflicts_apart}
 use Rattle.splits_list.proofs.conflict.Goals as goal
 
-pub returns-then-both-a : goal.returns-then-both-a
-returns-then-both-a c k pk sa sb = grind (arith, common_steps, conflicts_law k _ _ pk sa sb)
-
-pub returns-else-both-a : goal.returns-else-both-a
-returns-else-both-a c k pk sa sb = grind (arith, common_steps, conflicts_law k _ _ pk sa sb)
+pub returns : goal.returns
+returns c k pk l sa sb =
+    let apart = conflicts_apart k c.args.a c.args.b pk sa sb in
+    let part = and_le_l c.args.a c.args.b in
+    sym (ltb_from_iff (
+      (λ e. let (some, more, other) = apart.0 e in omega (arith, part, c.ranges.a)),
+      (λ m. apart.1 ((λ e. omega (arith, m)), (λ e. omega (arith, m)), (λ e. omega (arith, part)))),
+    ))
