@@ -86,7 +86,8 @@ fn sweep(seen: &Seen, pull: &[u32; 64], w: u32) -> u32
     best
 }
 
-// A trial of a split over its fours ax|yz that include a: 0 where some score is zero or below, else the least of w and the scores.
+// A trial of a split over its fours ax|yz that include a: 0 where some score is zero or below, else the least of w and the scores. Out of line for
+// speed, as `sweep` is.
 #[inline(never)]
 fn listed_trial(seen: &Seen, near: usize, w: u32) -> u32
     requires { near < seen.now.k }

@@ -48,9 +48,10 @@ fn row_fits(most: u32, k: usize, c: u64, w: u32) -> bool
     c != 0 && within(k, c) && c % 2 == 0 && w != 0 && w <= most
 }
 
-// Two splits conflict, the lesser one first. Neither cluster has taxon 0, so one intersection of their groups is never empty, and the greater cluster is
-// never within the lesser: they conflict where they share some taxa of the lesser, but not all. One test asks both, of numbers less one, where nothing
-// becomes the greatest: which of the two it is changes from row to row, and a jump on either is often guessed wrong.
+// Two splits conflict, the lesser number first. Neither cluster has taxon 0, so one intersection of their groups is never empty; and a greater number is
+// never within a lesser one, so another isn't either. What is left: they share some taxa, and not all of the lesser. One test asks both: 0, less one,
+// wraps round to the greatest number, which is below nothing. Two tests would jump by what the clusters share, which changes from pair to pair, and the
+// processor often guesses such jumps wrong.
 fn conflict(a: u64, b: u64) -> bool
     ensures { (k : ℕ) → 0 < k → a < b → Split k a → Split k b → result ≡ conflicts k a b }
 {
